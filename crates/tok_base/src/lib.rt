@@ -3,9 +3,19 @@
 //! implementation in memory and one over the real thing.
 #![tactic(auto)]
 
+mod files;
 mod list;
+mod memory;
+mod real;
+mod sink;
+mod status;
 mod token;
 
+pub use files::{Files, ReadEnd};
 pub use list::{Bytes, Failed, NoMemory, Reserved};
+pub use memory::{MemFiles, MemSink};
+pub use real::{RealFiles, RealSink};
+pub use sink::{Sink, WriteEnd, write_whole};
 pub use sqlite_items::{Boxed, Items};
+pub use status::Status;
 pub use token::{Kind, Lexeme, Span, Token};

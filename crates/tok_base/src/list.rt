@@ -1,6 +1,6 @@
 //! Lists: `Items` takes memory as it grows, `Reserved` has its room made ahead.
 
-ghost use Rattle.std.specs.Prelude.{◌≡◌, [], ◌∷◌, ◌++◌, ◌+◌, ◌-◌, ◌<◌, ◌≤◌, length, slice_get, slice_set, IfOk, OnOk, OnErr, OnSome};
+ghost use Rattle.std.specs.Prelude.{◌≡◌, [], ◌∷◌, ◌++◌, ◌+◌, ◌-◌, ◌<◌, ◌≤◌, length, drop, slice_get, slice_set, IfOk, OnOk, OnErr, OnSome};
 ghost use Rattle.std.specs.Option.{option_copied};
 
 use sqlite_items::Items;
@@ -119,4 +119,12 @@ impl<T: Drop> Reserved<T> {
     {
         self.list.clear();
     }
+}
+
+/// What follows the first `at` bytes.
+pub fn behind(bytes: &[u8], at: usize) -> &[u8]
+    requires { at ≤ length bytes.now }
+    ensures { result.now ≡ drop at bytes.now }
+{
+    &bytes[at..]
 }
