@@ -62,7 +62,7 @@ pub compress_chunk_more : (v s : State) (chunks : List (List ℕ)) (i word : ℕ
     → compress s word ≡ compress_all v (map little_endian (take (i + 1) chunks))
 compress_chunk_more v s chunks i word low before e =
     rw (take_more chunks i [] low, map-append little_endian (take i chunks) (get_or chunks i [] ∷ []))
-        (rw (compress_all_more v (map little_endian (take i chunks)) (little_endian (get_or chunks i []))) (rw (before, e) refl))
+    (rw (compress_all_more v (map little_endian (take i chunks)) (little_endian (get_or chunks i []))) (rw (before, e) refl))
 
 -- the two words of a key
 pub key_words : (key : List ℕ) (chunks : List (List ℕ)) → length key ≡ 16 → chunks ≡ first_chunks 8 (length key / 8) key
@@ -115,14 +115,13 @@ join_more word joined used i byte bytes low room read small before fits =
     let k : ℕ = 8 * (used + i) in
     let lt : length (take i bytes) ≡ i = length-take-le i bytes (omega arith) in
     let sum : bit_or joined ((byte * 2 ^ k) % 2 ^ 64) ≡ byte * 2 ^ k + joined =
-        rw (shl_whole byte 8 k 64 small (omega arith), or_comm joined (byte * 2 ^ k)) (or_shifted byte k joined fits) in
+    rw (shl_whole byte 8 k 64 small (omega arith), or_comm joined (byte * 2 ^ k)) (or_shifted byte k joined fits) in
     let more : little_endian (take (i + 1) bytes) ≡ little_endian (take i bytes) + byte * 2 ^ (8 * i) =
-        rw (take_more bytes i 0 low, little_endian-append (take i bytes) (get_or bytes i 0 ∷ []), lt, ← read) (omega arith) in
+    rw (take_more bytes i 0 low, little_endian-append (take i bytes) (get_or bytes i 0 ∷ []), lt, ← read) (omega arith) in
     let places : 2 ^ k ≡ 2 ^ (8 * i) * 2 ^ (8 * used) =
-        let e : k ≡ 8 * i + 8 * used = omega arith in rw e (pow-add 2 (8 * i) (8 * used)) in
+    let e : k ≡ 8 * i + 8 * used = omega arith in rw e (pow-add 2 (8 * i) (8 * used)) in
     let above : 2 ^ (8 * (used + (i + 1))) ≡ 2 ^ k * 2 ^ 8 =
-        let e : 8 * (used + (i + 1)) ≡ k + 8 = omega arith in rw e (pow-add 2 k 8) in
-    (
+    let e : 8 * (used + (i + 1)) ≡ k + 8 = omega arith in rw e (pow-add 2 k 8) in (
       sum ∙ rw (more, before, places) (omega arith),
       rw (sum, above) (mul-add-lt byte (2 ^ k) joined (2 ^ 8) small fits),
     )

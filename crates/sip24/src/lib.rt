@@ -6,7 +6,8 @@
 //! the whole list of bytes, wherever the message is cut. Nothing here takes memory.
 #![tactic(auto)]
 
-ghost use Rattle.std.specs.Prelude.{◌≡◌};
+ghost use Rattle.std.specs.Prelude.{◌≡◌, flat_map};
+ghost use Rattle.sip24.specs.Examples.{PublishedValues};
 ghost use Rattle.sip24.specs.SipHash.{siphash};
 
 mod hasher;
@@ -24,3 +25,19 @@ pub fn sip24(key: [u8; 16], bytes: &[u8]) -> u64
     hasher.update(bytes);
     hasher.finish()
 }
+
+/// The SipHash-2-4 of all `pieces` in turn under `key`: the same for every cut of a message into pieces.
+pub fn hash_pieces(key: [u8; 16], pieces: &[&[u8]]) -> u64
+    ensures { result ≡ siphash key (flat_map (λ piece. piece.now) pieces.now) }
+{
+    let mut hasher = Sip24::new(key);
+    for piece in pieces {
+        hasher.update(piece);
+    }
+    hasher.finish()
+}
+
+/// The definition gives the published values.
+pub fn published_values()
+    ensures { PublishedValues }
+{}

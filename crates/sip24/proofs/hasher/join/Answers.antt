@@ -11,4 +11,4 @@ pub loop-i-preserved : goal.loop-i-preserved
 loop-i-preserved c = λ small.
     let before = c.loop-i.invariant small in
     join_more c.args.word c.loop-i.joined c.args.used c.loop-i.i c.from.result c.args.bytes.now c.loop-i-test.true c.requires
-        (search rules) (search rules) before.0 before.1
+    (search rules) (search rules) before.0 before.1

@@ -11,7 +11,7 @@ returns c = λ key message held.
     let fits : 8 * n ≤ length rest = omega arith in
     let e : n * 8 ≡ 8 * n = omega arith in
     let second : take (8 * n) rest ++ c.as_chunks.result.1.now ≡ rest =
-        rw (c.as_chunks.ensures.back, e) (take-append-drop (8 * n) rest) in
+    rw (c.as_chunks.ensures.back, e) (take-append-drop (8 * n) rest) in
     let first : head ++ rest ≡ c.args.bytes.now = rw (c.split_at.ensures.front, c.split_at.ensures.back) (take-append-drop _ c.args.bytes.now) in
     let s1 = c.add_few-2.ensures.added key message held in
     let s2 = c.add_chunks.ensures.added key (message ++ head) rest n fits c.as_chunks.ensures.front s1 in

@@ -10,4 +10,4 @@ loop-chunk-init c = refl
 pub loop-chunk-preserved : goal.loop-chunk-preserved
 loop-chunk-preserved c =
     rw c.compress-state.ensures
-        (compress_chunk_more c.args.self c.loop-chunk.state c.args.chunks.now _ _ c.loop-chunk-test.true c.loop-chunk.invariant c.word_of.ensures)
+    (compress_chunk_more c.args.self c.loop-chunk.state c.args.chunks.now _ _ c.loop-chunk-test.true c.loop-chunk.invariant c.word_of.ensures)
