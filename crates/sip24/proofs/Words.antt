@@ -1,6 +1,6 @@
 -- Bytes as numbers and as words, and how both follow a list of bytes as it grows.
-use Rattle.std.proofs.Common.{◌≡◌, ℕ, zero, suc, ◌+◌, ◌-◌, ◌*◌, ◌/◌, ◌%◌, ◌^◌, ◌<◌, ◌≤◌, List, [], ◌∷◌, ◌++◌, length, take, drop, map, get_or, replicate, bit_or, refl, sym, ap, ◌∙◌, arith, length-append, length-drop, add-one, add-zero, zero-add}
-use Rattle.std.proofs.lemmas.List.{take-append-le, drop-append-le, append_assoc, append-nil, take_more, take_all, take-append-drop, length-take-le, map-append}
+use Rattle.std.proofs.Common.{◌≡◌, ℕ, zero, suc, ◌+◌, ◌-◌, ◌*◌, ◌/◌, ◌%◌, ◌^◌, ◌<◌, ◌≤◌, List, [], ◌∷◌, ◌++◌, length, take, drop, map, get_or, replicate, bit_or, refl, sym, ap, ◌∙◌, arith, length-append, length-drop, zero-add}
+use Rattle.std.proofs.lemmas.List.{take-append-le, drop-append-le, append_assoc, take_more, take_all, take-append-drop, length-take-le, map-append}
 use Rattle.std.proofs.lemmas.Nat.{pow-add, shl_whole, or_comm, or_shifted, mul-add-lt}
 use Rattle.std.specs.Int.{w64, from_le_bytes}
 use Rattle.std.specs.Simd.{first_chunks}

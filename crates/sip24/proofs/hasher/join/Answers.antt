@@ -1,4 +1,4 @@
-use Rattle.std.proofs.Common.{rules, arith}
+use Rattle.std.proofs.Common.{rules}
 use Rattle.sip24.specs.SipHash.{little_endian}
 use Rattle.sip24.proofs.Words.{join_more}
 use Rattle.sip24.proofs.hasher.join.Goals as goal

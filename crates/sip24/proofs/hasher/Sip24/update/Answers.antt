@@ -1,4 +1,4 @@
-use Rattle.std.proofs.Common.{◌≡◌, ℕ, List, ◌++◌, ◌*◌, ◌/◌, ◌≤◌, length, drop, take, arith, ap, ◌∙◌}
+use Rattle.std.proofs.Common.{◌≡◌, ℕ, List, ◌++◌, ◌*◌, ◌/◌, ◌≤◌, length, take, arith}
 use Rattle.std.proofs.lemmas.List.{take-append-drop}
 use Rattle.sip24.proofs.Reading.{joined_pieces}
 use Rattle.sip24.proofs.hasher.Sip24.update.Goals as goal
