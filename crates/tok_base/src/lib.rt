@@ -19,3 +19,6 @@ pub use sink::{Sink, WriteEnd, write_whole};
 pub use sqlite_items::{Boxed, Items};
 pub use status::Status;
 pub use token::{Kind, Lexeme, Span, Token};
+
+#[cfg(test)]
+mod tests;
