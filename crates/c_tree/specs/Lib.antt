@@ -6,3 +6,9 @@ pub mod Put
 pub mod Wf
 pub mod Depth
 pub mod Reading
+pub mod Marked
+pub mod Bare
+pub mod View
+pub mod Lexeme
+pub mod Pieces
+pub mod Places

@@ -1,23 +1,32 @@
--- D2 over the tokens as the grammar sees them.
-use Rattle.std.specs.Prelude.{◌≡◌, List, [], ◌∷◌, ◌++◌}
-use Rattle.c_tree.specs.Tok.{Tok}
+-- Which lists of kinds and texts are units, and where others go wrong.
+use Rattle.std.specs.Prelude.{◌≡◌, List, [], ◌∷◌, ◌++◌, map}
+use Rattle.tok_base.specs.declared.token.Lexeme.{Lexeme}
 use Rattle.c_tree.specs.Tree.{External}
+use Rattle.c_tree.specs.Lexeme.{lexeme}
 use Rattle.c_tree.specs.Put.{toks}
 use Rattle.c_tree.specs.Wf.{WfUnit}
 use Rattle.c_tree.specs.Depth.{IsFlat}
 
--- p is a prefix of the tokens of a well-formed unit
-abbrev pub Begins : List Tok → Type 0
-Begins p = (u : List External) × WfUnit [] u × (q : List Tok) × (toks u ≡ p ++ q)
+-- the one list of kinds and texts that a unit spells
+abbrev pub spelled : List External → List Lexeme
+spelled u = map lexeme (toks u)
 
--- the tokens are a well-formed unit's
-abbrev pub IsUnit : List Tok → Type 0
-IsUnit ts = (u : List External) × WfUnit [] u × (toks u ≡ ts)
+-- u is well formed and spells ls
+abbrev pub Reads : List Lexeme → List External → Type 0
+Reads ls u = WfUnit [] u × (spelled u ≡ ls)
 
--- p is before the place, rest from the place on
-abbrev pub IsPlace : List Tok → List Tok → Type 0
-IsPlace p rest = Begins p × ((t : Tok) (more : List Tok) → rest ≡ t ∷ more → Begins (p ++ t ∷ []) → ⊥)
+-- ls are a well-formed unit's
+abbrev pub IsUnit : List Lexeme → Type 0
+IsUnit ls = (u : List External) × Reads ls u
+
+-- p is a prefix of what a well-formed unit spells
+abbrev pub Begins : List Lexeme → Type 0
+Begins p = (u : List External) × WfUnit [] u × (q : List Lexeme) × (spelled u ≡ p ++ q)
+
+-- p, what stands before the place, begins a unit, and with what stands there it begins none
+abbrev pub IsPlace : List Lexeme → List Lexeme → Type 0
+IsPlace p rest = Begins p × ((l : Lexeme) (more : List Lexeme) → rest ≡ l ∷ more → Begins (p ++ l ∷ []) → ⊥)
 
 -- no flat well-formed unit begins with p
-abbrev pub IsDeep : List Tok → Type 0
-IsDeep p = (u : List External) (q : List Tok) → WfUnit [] u → IsFlat u → toks u ≡ p ++ q → ⊥
+abbrev pub IsDeep : List Lexeme → Type 0
+IsDeep p = (u : List External) (q : List Lexeme) → WfUnit [] u → IsFlat u → spelled u ≡ p ++ q → ⊥
