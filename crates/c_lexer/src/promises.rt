@@ -1,0 +1,30 @@
+//! Laws of the definitions: empty functions whose contracts state them.
+
+ghost use Rattle.std.specs.Prelude.{◌≡◌, ℕ, List, [], ◌++◌};
+ghost use Rattle.c_lexer.specs.Printed.{Written, AreTokens, print, placed};
+ghost use Rattle.c_lexer.specs.Joined.{NoneCross};
+ghost use Rattle.c_lexer.specs.Token.{Spot, Cuts, begin, Lexes, IsBad};
+ghost use Rattle.c_lexer.specs.Value.{Denotes};
+ghost use Rattle.tok_base.specs.declared.token.Token.{Token};
+
+/// Tokens that are written with a space or LF behind each are read as these tokens.
+pub fn print_law()
+    ensures { (xs : List Written) → AreTokens xs → Lexes (print xs) (placed 0 xs) }
+{}
+
+/// A text lexes in one way, or is bad at one place.
+pub fn one_way()
+    ensures tokens { (bytes : List ℕ) (ts us : List Token) → Lexes bytes ts → Lexes bytes us → ts ≡ us }
+    ensures place { (bytes : List ℕ) (p q : ℕ) → IsBad bytes p → IsBad bytes q → p ≡ q }
+    ensures apart { (bytes : List ℕ) (p : ℕ) (ts : List Token) → IsBad bytes p → Lexes bytes ts → ⊥ }
+{}
+
+/// A literal stands for one list of bytes.
+pub fn one_value()
+    ensures { (q : ℕ) (w a b : List ℕ) → (q ≡ 92 → ⊥) → Denotes q w a → Denotes q w b → a ≡ b }
+{}
+
+/// Two texts lex together as they do one after the other, where no piece of the first reaches into the second.
+pub fn join_law()
+    ensures { (x y : List ℕ) (ts us : List Token) (a b : Spot) → NoneCross x y → Cuts (begin x) ts a → a.rest ≡ [] → Cuts (record { at = a.at; lead = a.lead; rest = y }) us b → Cuts (begin (x ++ y)) (ts ++ us) b }
+{}
