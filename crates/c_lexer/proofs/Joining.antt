@@ -3,10 +3,12 @@ use Rattle.std.proofs.Common.{◌≡◌, ◌≢◌, ℕ, ◌≤◌, List, [], �
 use Rattle.c_lexer.specs.Separator.{IsSeparator}
 use Rattle.c_lexer.specs.Longest.{Longest, NoneBegins}
 use Rattle.c_lexer.specs.Joined.{NoneCross}
-use Rattle.c_lexer.specs.Token.{IsSpelling, Spot, Behind, SeparatorAt, TokenAt, Cuts, stop, separator, token, begin}
+use Rattle.c_lexer.specs.Token.{IsSpelling}
+use Rattle.c_lexer.specs.Cut.{Spot, Behind, SeparatorAt, TokenAt, Cuts, stop, separator, token, begin}
 use Rattle.tok_base.specs.declared.token.Token.{Token}
 use Rattle.c_lexer.proofs.Separators.{separator_told}
 use Rattle.c_lexer.proofs.Spellings.{spelling_told}
+use Rattle.c_lexer.proofs.Places.{step_on}
 
 abbrev pub with_more : List ℕ → Spot → Spot
 with_more y s = record { at = s.at; lead = s.lead; rest = s.rest ++ y }
@@ -71,9 +73,6 @@ token_more x y u s a t c e h = record {
   start = h.start;
   end = h.end;
 }
-
-step_on : (x u w : List ℕ) (s a : Spot) → x ≡ u ++ s.rest → Behind s w a → x ≡ (u ++ w) ++ a.rest
-step_on x u w s a e h = e ∙ ap (λ z. u ++ z) h.rest ∙ sym (append_assoc u w a.rest)
 
 pub cuts_more : (x y : List ℕ) → NoneCross x y → (u : List ℕ) (s a : Spot) (ts : List Token) → Cuts s ts a → x ≡ u ++ s.rest → Cuts (with_more y s) ts (with_more y a)
 cuts_more x y c u _ _ _ (stop s) e = stop (with_more y s)

@@ -1,7 +1,8 @@
 -- A text lexes in one way, or is bad at one place.
 use Rattle.std.proofs.Common.{◌≡◌, ℕ, ◌+◌, List, [], ◌∷◌, length, Result, Ok, Err, IfOk, Some, refl, sym, ◌∙◌, ap, subst}
 use Rattle.c_lexer.specs.Separator.{leads_after}
-use Rattle.c_lexer.specs.Token.{Spot, Behind, SeparatorAt, TokenAt, Cuts, stop, separator, token, begin, Lexes, IsStuck, IsBad, Outcome, Gives, Refuses}
+use Rattle.c_lexer.specs.Cut.{Spot, Behind, SeparatorAt, TokenAt, Cuts, stop, separator, token, begin, Lexes, IsStuck, IsBad}
+use Rattle.c_lexer.specs.Answer.{Outcome, Gives, Refuses}
 use Rattle.tok_base.specs.declared.token.Span.{Span}
 use Rattle.tok_base.specs.declared.token.Token.{Token}
 use Rattle.c_lexer.specs.declared.token.LexEnd.{LexEnd}

@@ -1,7 +1,8 @@
 -- The steps of the loop over a text.
 use Rattle.std.proofs.Common.{◌≡◌, ℕ, zero, suc, ◌+◌, ◌≤◌, ◌<◌, Bool, true, List, [], ◌∷◌, ◌++◌, length, take, drop, refl, sym, ◌∙◌, ap, subst, append_assoc, append-nil, arith}
 use Rattle.c_lexer.specs.Separator.{leads_after}
-use Rattle.c_lexer.specs.Token.{Spot, Cuts, stop, separator, token, begin, Lexes, IsBad, IsTokenOf}
+use Rattle.c_lexer.specs.Cut.{Spot, Cuts, stop, separator, token, begin, Lexes, IsBad}
+use Rattle.c_lexer.specs.Answer.{IsTokenOf}
 use Rattle.tok_base.specs.declared.token.Kind.{Kind}
 use Rattle.tok_base.specs.declared.token.Token.{Token}
 use Rattle.c_lexer.specs.declared.piece.Piece.TheVariants.{Skipped, Taken, Neither}

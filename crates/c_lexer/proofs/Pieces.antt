@@ -3,7 +3,9 @@ use Rattle.std.proofs.Common.{◌≡◌, ℕ, ◌+◌, ◌≤◌, true, false, e
 use Rattle.std.proofs.lemmas.Bool.{eqb-true, and_parts}
 use Rattle.c_lexer.specs.Separator.{IsSeparator, leads_after}
 use Rattle.c_lexer.specs.Longest.{Longest, NoneBegins}
-use Rattle.c_lexer.specs.Token.{IsSpelling, IsToken, Spot, Behind, SeparatorAt, NoSeparatorAt, TokenAt, IsStuck, IsTokenOf}
+use Rattle.c_lexer.specs.Token.{IsSpelling, IsToken}
+use Rattle.c_lexer.specs.Cut.{Spot, Behind, SeparatorAt, NoSeparatorAt, TokenAt, IsStuck}
+use Rattle.c_lexer.specs.Answer.{IsTokenOf}
 use Rattle.tok_base.specs.declared.token.Kind.{Kind}
 use Rattle.tok_base.specs.declared.token.Token.{Token}
 use Rattle.c_lexer.specs.declared.piece.Piece.{Piece}

@@ -10,7 +10,9 @@ use Rattle.c_lexer.specs.Literal.{IsChar, IsText}
 use Rattle.c_lexer.specs.Mark.{marks, is_mark}
 use Rattle.c_lexer.specs.Separator.{IsSeparator, leads_after}
 use Rattle.c_lexer.specs.Longest.{Longest}
-use Rattle.c_lexer.specs.Token.{IsSpelling, IsToken, Spot, Behind, SeparatorAt, TokenAt, IsTokenOf}
+use Rattle.c_lexer.specs.Token.{IsSpelling, IsToken}
+use Rattle.c_lexer.specs.Cut.{Spot, Behind, SeparatorAt, TokenAt}
+use Rattle.c_lexer.specs.Answer.{IsTokenOf}
 use Rattle.c_lexer.specs.declared.spelling.First.{First}
 use Rattle.c_lexer.specs.declared.spelling.First.TheVariants.{Letter, Digit, Dot, Single, Double, Other}
 use Rattle.tok_base.specs.declared.token.Kind.{Kind}
@@ -18,7 +20,7 @@ use Rattle.tok_base.specs.declared.token.Kind.TheVariants.{Char, Text, Mark}
 use Rattle.tok_base.specs.declared.token.Token.{Token}
 use Rattle.c_lexer.specs.Scan.{class_of, kind_at}
 use Rattle.c_lexer.specs.Printed.{IsGap, Written, AreTokens, print, placed}
-use Rattle.c_lexer.specs.Token.{Cuts, stop, separator, token, Lexes}
+use Rattle.c_lexer.specs.Cut.{Cuts, stop, separator, token, Lexes}
 use Rattle.c_lexer.proofs.Fronts.{clash}
 use Rattle.c_lexer.proofs.Tables.{table_law, each_byte}
 use Rattle.c_lexer.proofs.Separators.{blank_told, s_blank, s_comment, s_line, s_marker, shape}
@@ -216,7 +218,7 @@ gap_blank b h = grind (arith, nat_tests)
 abbrev gap_after : Spot → ℕ → List ℕ → Spot
 gap_after s b more = record { at = s.at + 1; lead = leads_after s.lead (b ∷ []); rest = more }
 
-gap_separates : (at : ℕ) (lead : Bool) (b : ℕ) (more : List ℕ) → IsGap b
+pub gap_separates : (at : ℕ) (lead : Bool) (b : ℕ) (more : List ℕ) → IsGap b
     → SeparatorAt (record { at = at; lead = lead; rest = b ∷ more }) (record { at = at + 1; lead = leads_after lead (b ∷ []); rest = more })
 gap_separates at lead b more g = record { bytes = b ∷ []; is = blank_told lead b more (gap_blank b g); behind = record { at = refl; lead = refl; rest = refl } }
 

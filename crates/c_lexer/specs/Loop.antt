@@ -1,6 +1,6 @@
 -- What the loop over a text keeps.
 use Rattle.std.specs.Prelude.{ℕ, ◌≤◌, Bool, List, ◌++◌, drop, length}
-use Rattle.c_lexer.specs.Token.{Spot, Cuts, begin}
+use Rattle.c_lexer.specs.Cut.{Spot, Cuts, begin}
 use Rattle.tok_base.specs.declared.token.Token.{Token}
 
 abbrev pub spot : ℕ → Bool → List ℕ → Spot

@@ -1,14 +1,15 @@
 //! The loop over a whole text.
 
 ghost use Rattle.std.specs.Prelude.{◌≡◌, ℕ, ◌^◌, ◌<◌, ◌≤◌, take, drop, List, length, IfOk};
-ghost use Rattle.c_lexer.specs.Token.{Outcome, Lexes, IsBad, Gives, Refuses};
+ghost use Rattle.c_lexer.specs.Cut.{Lexes, IsBad};
+ghost use Rattle.c_lexer.specs.Answer.{Outcome, Gives, Refuses};
 ghost use Rattle.tok_base.specs.declared.token.Token.{Token};
 
 use crate::piece::{Piece, piece_of};
 use crate::separator::leads_after;
 use crate::token::{LexEnd, make_token};
-use tok_base::{Items, Token};
 use std::alloc::Global;
+use tok_base::{Items, Token};
 
 fn behind(text: &[u8], at: usize) -> &[u8]
     requires { at ≤ length text.now }
@@ -58,6 +59,7 @@ pub fn lex(alloc: Global, text: &[u8]) -> Result<Items<Token>, LexEnd>
     ensures only { (ts : List Token) → Lexes text.now ts → Gives ts result }
     ensures bad { (p : ℕ) → result ≡ Err (LexEnd.Bad p) → IsBad text.now p }
     ensures only_bad { (p : ℕ) → IsBad text.now p → Refuses p result }
+    ensures within { (p : ℕ) → result ≡ Err (LexEnd.Bad p) → p < length text.now }
 {
     cut(alloc, text)
 }

@@ -12,7 +12,7 @@ mod spelling;
 mod token;
 
 pub use lexer::lex;
-pub use promises::{join_law, one_value, one_way, print_law};
+pub use promises::{join_law, lines_law, one_value, one_way, print_law, tokens_law};
 pub use token::LexEnd;
 
 #[cfg(test)]

@@ -1,7 +1,7 @@
 //! Making a token, and how reading a text may end without tokens.
 
 ghost use Rattle.std.specs.Prelude.{◌+◌, ◌<◌, ◌^◌, length, IfOk};
-ghost use Rattle.c_lexer.specs.Token.{IsTokenOf};
+ghost use Rattle.c_lexer.specs.Answer.{IsTokenOf};
 
 use std::alloc::{AllocError, Global};
 use thiserror::Error;
