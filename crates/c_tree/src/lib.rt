@@ -5,6 +5,7 @@
 
 mod expression;
 mod operator;
+mod promises;
 mod statement;
 
 pub use expression::{
@@ -12,4 +13,5 @@ pub use expression::{
     Spec, TypeName,
 };
 pub use operator::{AssignOp, At, BinaryOp, Keyword, PrefixOp, Qualifier, Step};
+pub use promises::lexeme_law;
 pub use statement::{Block, BlockItem, Declaration, Definition, External, ForFirst, Init, Item, Stmt, Unit};
