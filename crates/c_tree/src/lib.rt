@@ -9,9 +9,11 @@ mod promises;
 mod statement;
 
 pub use expression::{
-    Attribute, AttributeArgument, Declarator, Entry, Enum, Enumerator, EnumeratorList, Expr, Field, Param, Record,
-    Spec, TypeName,
+    Attribute, AttributeArgument, Declarator, Entry, Enum, Enumerator, EnumeratorList, Expr, Field,
+    Param, Record, Spec, TypeName,
 };
 pub use operator::{AssignOp, At, BinaryOp, Keyword, PrefixOp, Qualifier, Step};
 pub use promises::lexeme_law;
-pub use statement::{Block, BlockItem, Declaration, Definition, External, ForFirst, Init, Item, Stmt, Unit};
+pub use statement::{
+    Block, BlockItem, Declaration, Definition, External, ForFirst, Init, Item, Stmt, Unit,
+};
