@@ -1,5 +1,5 @@
 -- The tree without places and numbers.
-use Rattle.std.specs.Prelude.{ℕ, List, map, Option, Some, None}
+use Rattle.std.specs.Prelude.{List, map, Option, Some, None}
 use Rattle.c_tree.specs.Tree as u
 use Rattle.c_tree.specs.Marked as m
 use Rattle.c_tree.specs.Marked.{Expr, TypeName, Exprs, MaybeExpr, Specs, Fields, MaybeFields, Declarators, Declarator, MaybeDeclarator, Enumerators, MaybeEnumerators, Params, Init, Inits, MaybeInit, Item, Declaration, First, Stmt, BlockItems, External, Entry, Argument, Attribute}

@@ -1,7 +1,6 @@
 -- The tokens of a tree with the beginning and the end of each node between them, and then rest.
 -- From it: the numbers of the nodes, and their places.
-use Rattle.std.specs.Prelude.{◌≡◌, ℕ, suc, List, [], ◌∷◌, Bool, true, false, Option, Some, None}
-use Rattle.tok_base.specs.declared.token.Span.{Span}
+use Rattle.std.specs.Prelude.{ℕ, List, [], ◌∷◌, Bool, true, false, Option, Some, None}
 use Rattle.c_tree.specs.Tok.{Tok, Word, name, word, number, char, text, mark}
 use Rattle.c_tree.specs.Tok as t
 use Rattle.c_tree.specs.Marks.{binary_mark, assign_mark, prefix_mark, step_mark, record_word}

@@ -3,7 +3,6 @@ use Rattle.std.specs.Prelude.{◌≡◌, ℕ, suc, List, [], ◌∷◌}
 use Rattle.tok_base.specs.declared.token.Span.{Span}
 use Rattle.c_tree.specs.Marked.{External}
 use Rattle.c_tree.specs.Pieces.{Piece, token, opens, closes, absent, pieces_unit}
-use Rattle.c_tree.specs.declared.operator.At.{At}
 
 -- the nodes have the numbers n, n + 1, .. in the order of their ends: the parts before the whole, in text order
 abbrev pub Numbered : ℕ → List Piece → Type 0

@@ -1,10 +1,15 @@
 -- The program's tree, seen with the place and the number of each node.
-use Rattle.std.specs.Prelude.{ℕ, List, [], ◌∷◌, map, Option, Some, None}
+use Rattle.std.specs.Prelude.{List, [], ◌∷◌, map, Option, Some, None, Box}
+use Rattle.std.specs.Global.{Global}
 use Rattle.c_tree.specs.Tok as t
 use Rattle.c_tree.specs.Tok.{Word}
 use Rattle.c_tree.specs.Tree as u
 use Rattle.c_tree.specs.Marked as m
 use Rattle.c_tree.specs.declared.expression.Expr.{Expr}
+use Rattle.c_tree.specs.declared.expression.TypeName.{TypeName}
+use Rattle.c_tree.specs.declared.expression.Field.{Field}
+use Rattle.c_tree.specs.declared.expression.Enumerator.{Enumerator}
+use Rattle.c_tree.specs.declared.expression.Param.{Param}
 use Rattle.c_tree.specs.declared.expression.Spec.{Spec}
 use Rattle.c_tree.specs.declared.expression.Declarator.{Declarator}
 use Rattle.c_tree.specs.declared.expression.Record.{Record}
@@ -24,7 +29,6 @@ use Rattle.c_tree.specs.declared.statement.Item.{Item}
 use Rattle.c_tree.specs.declared.statement.Declaration.{Declaration}
 use Rattle.c_tree.specs.declared.statement.ForFirst.{ForFirst}
 use Rattle.c_tree.specs.declared.statement.Stmt.{Stmt}
-use Rattle.c_tree.specs.declared.statement.Block.{Block}
 use Rattle.c_tree.specs.declared.statement.BlockItem.{BlockItem}
 use Rattle.c_tree.specs.declared.statement.Definition.{Definition}
 use Rattle.c_tree.specs.declared.statement.External.{External}
@@ -212,13 +216,54 @@ abbrev mutual
   view_params b.end_of-Param = m.no_params
   view_params (b.more_of-Param at shape ss d ps) = m.Param at (view_specs ss) (view_maybe_declarator d) (view_params ps)
 
+-- ---- the same for values that stand alone
+
+abbrev pub exprs_of : List Expr → m.Exprs
+exprs_of [] = m.no_exprs
+exprs_of (a ∷ xs) = m.expr (view a) (exprs_of xs)
+
 abbrev pub specs_of : List Spec → m.Specs
 specs_of [] = m.no_specs
 specs_of (s ∷ ss) = view_spec s (specs_of ss)
 
+abbrev pub declarators_of : List Declarator → m.Declarators
+declarators_of [] = m.no_declarators
+declarators_of (d ∷ ds) = m.declarator (view_declarator d) (declarators_of ds)
+
 abbrev pub view_maybe_expr : Option Expr → m.MaybeExpr
 view_maybe_expr None = m.no_expr
 view_maybe_expr (Some a) = m.some_expr (view a)
+
+abbrev pub boxed_expr : Option (Box Expr Global) → m.MaybeExpr
+boxed_expr None = m.no_expr
+boxed_expr (Some a) = m.some_expr (view a.value)
+
+abbrev pub boxed_declarator : Option (Box Declarator Global) → m.MaybeDeclarator
+boxed_declarator None = m.no_declarator
+boxed_declarator (Some d) = m.some_declarator (view_declarator d.value)
+
+abbrev pub view_type_name : TypeName → m.TypeName
+view_type_name t = m.type_name t.at (specs_of t.specs) (boxed_declarator t.declarator)
+
+abbrev pub fields_of : List Field → m.Fields
+fields_of [] = m.no_fields
+fields_of (f ∷ fs) = m.Field f.at (specs_of f.specs) (declarators_of f.declarators) (fields_of fs)
+
+abbrev pub body_of : Option (List Field) → m.MaybeFields
+body_of None = m.no_body
+body_of (Some fs) = m.body (fields_of fs)
+
+abbrev pub enumerators_of : List Enumerator → m.Enumerators
+enumerators_of [] = m.no_enumerators
+enumerators_of (e ∷ es) = m.Enumerator e.at e.name (boxed_expr e.value) (enumerators_of es)
+
+abbrev pub list_of : Option EnumeratorList → m.MaybeEnumerators
+list_of None = m.no_list
+list_of (Some l) = view_enumerator_list l
+
+abbrev pub params_of : List Param → m.Params
+params_of [] = m.no_params
+params_of (p ∷ ps) = m.Param p.at (specs_of p.specs) (boxed_declarator p.declarator) (params_of ps)
 
 -- ---- declarations
 
@@ -230,6 +275,10 @@ abbrev mutual
   pub view_inits : {n : _} → i.Row_of-Init n → m.Inits
   view_inits i.end_of-Init = m.no_inits
   view_inits (i.more_of-Init a is) = m.init (view_init a) (view_inits is)
+
+abbrev pub inits_of : List Init → m.Inits
+inits_of [] = m.no_inits
+inits_of (a ∷ is) = m.init (view_init a) (inits_of is)
 
 abbrev pub view_maybe_init : Option Init → m.MaybeInit
 view_maybe_init None = m.no_init

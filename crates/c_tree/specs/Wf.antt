@@ -1,7 +1,7 @@
 -- Which trees are well formed (ISO/IEC 9899:2018, A.2): each part has the level that its place demands, each token is one, and
 -- names are typedef names where the grammar takes them as such. env has the typedef names so far; it changes only at the
 -- declarators of a declaration and of a definition.
-use Rattle.std.specs.Prelude.{◌≡◌, ℕ, suc, ◌≤◌, ◌⊎◌, Bool, true, false, ◌||◌, List, [], ◌∷◌, ◌++◌, Option, Some, None, IsSome, IsNone}
+use Rattle.std.specs.Prelude.{◌≡◌, ℕ, suc, ◌≤◌, ◌⊎◌, Bool, true, false, ◌||◌, List, [], ◌∷◌, Option, Some, None, IsSome, IsNone}
 use Rattle.std.specs.List.{list_any, AllByRecursion}
 use Rattle.c_tree.specs.Tok as t
 use Rattle.c_tree.specs.Tok.{Word}

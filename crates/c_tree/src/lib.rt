@@ -4,6 +4,7 @@
 #![tactic(auto)]
 
 mod expression;
+pub mod make;
 mod operator;
 mod promises;
 mod statement;
