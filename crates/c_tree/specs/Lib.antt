@@ -13,3 +13,4 @@ pub mod Lexeme
 pub mod Pieces
 pub mod Places
 pub mod Laws
+pub mod Examples
