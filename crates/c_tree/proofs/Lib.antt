@@ -1,3 +1,4 @@
 pub mod Lexemes
 pub mod Views
 pub mod Examples
+pub mod Pieces

@@ -1,7 +1,7 @@
 //! Laws of the definitions: empty functions whose contracts state them.
 
 ghost use Rattle.c_tree.specs.Examples.{AttributesAre, DeclaratorsAre, DepthsAre, ExpressionsAre, PlacesAre, StatementsAre, TypedefNamesAre};
-ghost use Rattle.c_tree.specs.Laws.{LexemesAreKept, LexemesAreTold, TokensAreTold};
+ghost use Rattle.c_tree.specs.Laws.{LexemesAreKept, LexemesAreTold, PiecesAreTokens, TokensAreTold};
 
 /// The tokens of the grammar are the kinds and texts of the lexis.
 pub fn lexeme_law()
@@ -19,4 +19,9 @@ pub fn some_examples()
     ensures expressions { ExpressionsAre }
     ensures attributes { AttributesAre }
     ensures places { PlacesAre }
+{}
+
+/// A unit with its places and numbers spells what it spells without them.
+pub fn pieces_law()
+    ensures { PiecesAreTokens }
 {}
