@@ -48,9 +48,10 @@ declarators =
     (((there, (refl, tt), (refl, tt, (tt, (tt, tt, (tt, name_f)), (there, (refl, tt), tt, tt)), tt, tt, (refl, tt, (tt, (tt, name_a, (omega arith, number_3))), tt, tt, tt))), tt), refl)
 
 typedef_wf : WfUnit [] same_name
-typedef_wf =
-    (((λ e. cc), (refl, (refl, tt)), (refl, (λ h. refl), name_t, tt, tt, tt)),
-      ((there, (refl, tt), refl, (λ h. refl), (tt, name_f, ((λ e. cc), (name_t, refl, refl, tt), (refl, (λ h. refl), name_t), tt)), inl tt, ((omega arith, number_1), tt)), tt))
+typedef_wf = (
+  ((λ e. cc), (refl, (refl, tt)), (refl, (λ h. refl), name_t, tt, tt, tt)),
+  ((there, (refl, tt), refl, (λ h. refl), (tt, name_f, ((λ e. cc), (name_t, refl, refl, tt), (refl, (λ h. refl), name_t), tt)), inl tt, ((omega arith, number_1), tt)), tt),
+)
 
 no_operand : WfUnit [] type_as_operand → ⊥
 no_operand h = let e : true ≡ false = h.1.0.2.4.1.1 in cc
@@ -114,5 +115,7 @@ pub attributes : AttributesAre
 attributes = (arguments_wf, refl)
 
 pub places : PlacesAre
-places = ((refl, (refl, (refl, (refl, (refl, (refl, (refl, tt))))))),
-    (refl, (refl, (refl, (refl, (refl, (refl, (refl, (refl, refl, (refl, (refl, (refl, (refl, (refl, refl))))))))))))))
+places = (
+  (refl, (refl, (refl, (refl, (refl, (refl, (refl, tt))))))),
+  (refl, (refl, (refl, (refl, (refl, (refl, (refl, (refl, refl, (refl, (refl, (refl, (refl, (refl, refl))))))))))))),
+)

@@ -2,3 +2,4 @@ pub mod Lexemes
 pub mod Views
 pub mod Examples
 pub mod Pieces
+pub mod Spelled

@@ -70,27 +70,27 @@ kept_attribute a r = ap (λ x. (word t.KAttribute) ∷ (mark t.LParen) ∷ (mark
 
 mutual
   kept : (x : Expr) (r : List Piece) → tokens_of (pieces x r) ≡ put (bare x) (tokens_of r)
-  kept (m.Comma at a b) r = 
+  kept (m.Comma at a b) r =
       kept a (token (mark t.Com) ∷ pieces b (closes at ∷ r))
       ∙ ap (λ x. put (bare a) ((mark t.Com) ∷ x)) (kept b (closes at ∷ r))
-  kept (m.Assign at a op b) r = 
+  kept (m.Assign at a op b) r =
       kept a (token (mark (assign_mark op)) ∷ pieces b (closes at ∷ r))
       ∙ ap (λ x. put (bare a) ((mark (assign_mark op)) ∷ x)) (kept b (closes at ∷ r))
-  kept (m.Cond at c a b) r = 
+  kept (m.Cond at c a b) r =
       kept c (token (mark t.Quest) ∷ pieces a (token (mark t.Colon) ∷ pieces b (closes at ∷ r)))
       ∙ ap (λ x. put (bare c) ((mark t.Quest) ∷ x)) (kept a (token (mark t.Colon) ∷ pieces b (closes at ∷ r)))
       ∙ ap (λ x. put (bare c) ((mark t.Quest) ∷ put (bare a) ((mark t.Colon) ∷ x))) (kept b (closes at ∷ r))
-  kept (m.Binary at a op b) r = 
+  kept (m.Binary at a op b) r =
       kept a (token (mark (binary_mark op)) ∷ pieces b (closes at ∷ r))
       ∙ ap (λ x. put (bare a) ((mark (binary_mark op)) ∷ x)) (kept b (closes at ∷ r))
   kept (m.Cast at n a) r = kept_cast n a at r (kept a (closes at ∷ r))
   kept (m.Prefix at op a) r = ap (λ x. (mark (prefix_mark op)) ∷ x) (kept a (closes at ∷ r))
   kept (m.SizeofExpr at a) r = ap (λ x. (word t.KSizeof) ∷ x) (kept a (closes at ∷ r))
   kept (m.SizeofType at n) r = kept_sizeof n at r
-  kept (m.Index at a b) r = 
+  kept (m.Index at a b) r =
       kept a (token (mark t.LBracket) ∷ pieces b (token (mark t.RBracket) ∷ closes at ∷ r))
       ∙ ap (λ x. put (bare a) ((mark t.LBracket) ∷ x)) (kept b (token (mark t.RBracket) ∷ closes at ∷ r))
-  kept (m.Call at f xs) r = 
+  kept (m.Call at f xs) r =
       kept f (token (mark t.LParen) ∷ pieces_exprs xs (token (mark t.RParen) ∷ closes at ∷ r))
       ∙ ap (λ x. put (bare f) ((mark t.LParen) ∷ x)) (kept_exprs xs (token (mark t.RParen) ∷ closes at ∷ r))
   kept (m.Dot at a n) r = kept a (token (mark t.Point) ∷ token (name n) ∷ closes at ∷ r)
@@ -117,13 +117,13 @@ mutual
 
   kept_exprs : (x : Exprs) (r : List Piece) → tokens_of (pieces_exprs x r) ≡ put_exprs (bare_exprs x) (tokens_of r)
   kept_exprs m.no_exprs r = refl
-  kept_exprs (m.expr a xs) r = 
+  kept_exprs (m.expr a xs) r =
       kept a (pieces_more_exprs xs (r))
       ∙ ap (λ x. put (bare a) (x)) (kept_more_exprs xs (r))
 
   kept_more_exprs : (x : Exprs) (r : List Piece) → tokens_of (pieces_more_exprs x r) ≡ put_more_exprs (bare_exprs x) (tokens_of r)
   kept_more_exprs m.no_exprs r = refl
-  kept_more_exprs (m.expr a xs) r = 
+  kept_more_exprs (m.expr a xs) r =
       ap (λ x. (mark t.Com) ∷ x) (kept a (pieces_more_exprs xs (r)))
       ∙ ap (λ x. (mark t.Com) ∷ put (bare a) (x)) (kept_more_exprs xs (r))
 
@@ -135,14 +135,14 @@ mutual
   kept_specs m.no_specs r = refl
   kept_specs (m.Keyword w ss) r = ap (λ x. (word w) ∷ x) (kept_specs ss (r))
   kept_specs (m.Typedef n ss) r = ap (λ x. (name n) ∷ x) (kept_specs ss (r))
-  kept_specs (m.attribute a ss) r = 
+  kept_specs (m.attribute a ss) r =
       kept_attribute a (pieces_specs ss (r))
       ∙ ap (λ x. put_attribute (bare_attribute a) (x)) (kept_specs ss (r))
-  kept_specs (m.Record at is_union tag b ss) r = 
+  kept_specs (m.Record at is_union tag b ss) r =
       ap (λ x. (word (record_word is_union)) ∷ x) (kept_name tag (pieces_body b (closes at ∷ pieces_specs ss (r))))
       ∙ ap (λ x. (word (record_word is_union)) ∷ put_name tag (x)) (kept_body b (closes at ∷ pieces_specs ss (r)))
       ∙ ap (λ x. (word (record_word is_union)) ∷ put_name tag (put_body (bare_body b) (x))) (kept_specs ss (r))
-  kept_specs (m.Enum at tag b ss) r = 
+  kept_specs (m.Enum at tag b ss) r =
       ap (λ x. (word t.KEnum) ∷ x) (kept_name tag (pieces_list b (closes at ∷ pieces_specs ss (r))))
       ∙ ap (λ x. (word t.KEnum) ∷ put_name tag (x)) (kept_list b (closes at ∷ pieces_specs ss (r)))
       ∙ ap (λ x. (word t.KEnum) ∷ put_name tag (put_list (bare_list b) (x))) (kept_specs ss (r))
@@ -153,38 +153,38 @@ mutual
 
   kept_fields : (x : Fields) (r : List Piece) → tokens_of (pieces_fields x r) ≡ put_fields (bare_fields x) (tokens_of r)
   kept_fields m.no_fields r = refl
-  kept_fields (m.Field at ss ds fs) r = 
+  kept_fields (m.Field at ss ds fs) r =
       kept_specs ss (pieces_declarators ds (token (mark t.Semi) ∷ closes at ∷ pieces_fields fs (r)))
       ∙ ap (λ x. put_specs (bare_specs ss) (x)) (kept_declarators ds (token (mark t.Semi) ∷ closes at ∷ pieces_fields fs (r)))
       ∙ ap (λ x. put_specs (bare_specs ss) (put_declarators (bare_declarators ds) ((mark t.Semi) ∷ x))) (kept_fields fs (r))
 
   kept_declarators : (x : Declarators) (r : List Piece) → tokens_of (pieces_declarators x r) ≡ put_declarators (bare_declarators x) (tokens_of r)
   kept_declarators m.no_declarators r = refl
-  kept_declarators (m.declarator d ds) r = 
+  kept_declarators (m.declarator d ds) r =
       kept_declarator d (pieces_more_declarators ds (r))
       ∙ ap (λ x. put_declarator (bare_declarator d) (x)) (kept_more_declarators ds (r))
 
   kept_more_declarators : (x : Declarators) (r : List Piece) → tokens_of (pieces_more_declarators x r) ≡ put_more_declarators (bare_declarators x) (tokens_of r)
   kept_more_declarators m.no_declarators r = refl
-  kept_more_declarators (m.declarator d ds) r = 
+  kept_more_declarators (m.declarator d ds) r =
       ap (λ x. (mark t.Com) ∷ x) (kept_declarator d (pieces_more_declarators ds (r)))
       ∙ ap (λ x. (mark t.Com) ∷ put_declarator (bare_declarator d) (x)) (kept_more_declarators ds (r))
 
   kept_list : (x : MaybeEnumerators) (r : List Piece) → tokens_of (pieces_list x r) ≡ put_list (bare_list x) (tokens_of r)
   kept_list m.no_list r = refl
-  kept_list (m.list es comma) r = 
+  kept_list (m.list es comma) r =
       ap (λ x. (mark t.LBrace) ∷ x) (kept_enumerators es (pieces_comma_if comma (token (mark t.RBrace) ∷ r)))
       ∙ ap (λ x. (mark t.LBrace) ∷ put_enumerators (bare_enumerators es) (x)) (kept_comma_if comma (token (mark t.RBrace) ∷ r))
 
   kept_enumerators : (x : Enumerators) (r : List Piece) → tokens_of (pieces_enumerators x r) ≡ put_enumerators (bare_enumerators x) (tokens_of r)
   kept_enumerators m.no_enumerators r = refl
-  kept_enumerators (m.Enumerator at n v es) r = 
+  kept_enumerators (m.Enumerator at n v es) r =
       ap (λ x. (name n) ∷ x) (kept_value v (closes at ∷ pieces_more_enumerators es (r)))
       ∙ ap (λ x. (name n) ∷ put_value (bare_maybe v) (x)) (kept_more_enumerators es (r))
 
   kept_more_enumerators : (x : Enumerators) (r : List Piece) → tokens_of (pieces_more_enumerators x r) ≡ put_more_enumerators (bare_enumerators x) (tokens_of r)
   kept_more_enumerators m.no_enumerators r = refl
-  kept_more_enumerators (m.Enumerator at n v es) r = 
+  kept_more_enumerators (m.Enumerator at n v es) r =
       ap (λ x. (mark t.Com) ∷ (name n) ∷ x) (kept_value v (closes at ∷ pieces_more_enumerators es (r)))
       ∙ ap (λ x. (mark t.Com) ∷ (name n) ∷ put_value (bare_maybe v) (x)) (kept_more_enumerators es (r))
 
@@ -197,29 +197,29 @@ mutual
   kept_maybe_declarator (m.some_declarator d) r = kept_declarator d (r)
 
   kept_declarator : (x : Declarator) (r : List Piece) → tokens_of (pieces_declarator x r) ≡ put_declarator (bare_declarator x) (tokens_of r)
-  kept_declarator (m.PointerTo at qs d) r = 
+  kept_declarator (m.PointerTo at qs d) r =
       ap (λ x. (mark t.Star) ∷ x) (kept_words qs (pieces_declarator d (closes at ∷ r)))
       ∙ ap (λ x. (mark t.Star) ∷ put_all put_word qs (x)) (kept_declarator d (closes at ∷ r))
   kept_declarator (m.Declared at None) r = refl
   kept_declarator (m.Declared at (Some n)) r = refl
   kept_declarator (m.Group at d) r = ap (λ x. (mark t.LParen) ∷ x) (kept_declarator d (token (mark t.RParen) ∷ closes at ∷ r))
-  kept_declarator (m.ArrayOf at d n) r = 
+  kept_declarator (m.ArrayOf at d n) r =
       kept_declarator d (token (mark t.LBracket) ∷ pieces_maybe n (token (mark t.RBracket) ∷ closes at ∷ r))
       ∙ ap (λ x. put_declarator (bare_declarator d) ((mark t.LBracket) ∷ x)) (kept_maybe n (token (mark t.RBracket) ∷ closes at ∷ r))
-  kept_declarator (m.FunctionOf at d ps) r = 
+  kept_declarator (m.FunctionOf at d ps) r =
       kept_declarator d (token (mark t.LParen) ∷ pieces_params ps (token (mark t.RParen) ∷ closes at ∷ r))
       ∙ ap (λ x. put_declarator (bare_declarator d) ((mark t.LParen) ∷ x)) (kept_params ps (token (mark t.RParen) ∷ closes at ∷ r))
 
   kept_params : (x : Params) (r : List Piece) → tokens_of (pieces_params x r) ≡ put_params (bare_params x) (tokens_of r)
   kept_params m.no_params r = refl
-  kept_params (m.Param at ss d ps) r = 
+  kept_params (m.Param at ss d ps) r =
       kept_specs ss (pieces_maybe_declarator d (closes at ∷ pieces_more_params ps (r)))
       ∙ ap (λ x. put_specs (bare_specs ss) (x)) (kept_maybe_declarator d (closes at ∷ pieces_more_params ps (r)))
       ∙ ap (λ x. put_specs (bare_specs ss) (put_maybe_declarator (bare_maybe_declarator d) (x))) (kept_more_params ps (r))
 
   kept_more_params : (x : Params) (r : List Piece) → tokens_of (pieces_more_params x r) ≡ put_more_params (bare_params x) (tokens_of r)
   kept_more_params m.no_params r = refl
-  kept_more_params (m.Param at ss d ps) r = 
+  kept_more_params (m.Param at ss d ps) r =
       ap (λ x. (mark t.Com) ∷ x) (kept_specs ss (pieces_maybe_declarator d (closes at ∷ pieces_more_params ps (r))))
       ∙ ap (λ x. (mark t.Com) ∷ put_specs (bare_specs ss) (x)) (kept_maybe_declarator d (closes at ∷ pieces_more_params ps (r)))
       ∙ ap (λ x. (mark t.Com) ∷ put_specs (bare_specs ss) (put_maybe_declarator (bare_maybe_declarator d) (x))) (kept_more_params ps (r))
@@ -229,19 +229,19 @@ mutual
 mutual
   kept_init : (x : Init) (r : List Piece) → tokens_of (pieces_init x r) ≡ put_init (bare_init x) (tokens_of r)
   kept_init (m.Plain a) r = kept a (r)
-  kept_init (m.Braces at is comma) r = 
+  kept_init (m.Braces at is comma) r =
       ap (λ x. (mark t.LBrace) ∷ x) (kept_inits is (pieces_comma_if comma (token (mark t.RBrace) ∷ closes at ∷ r)))
       ∙ ap (λ x. (mark t.LBrace) ∷ put_inits (bare_inits is) (x)) (kept_comma_if comma (token (mark t.RBrace) ∷ closes at ∷ r))
 
   kept_inits : (x : Inits) (r : List Piece) → tokens_of (pieces_inits x r) ≡ put_inits (bare_inits x) (tokens_of r)
   kept_inits m.no_inits r = refl
-  kept_inits (m.init i is) r = 
+  kept_inits (m.init i is) r =
       kept_init i (pieces_more_inits is (r))
       ∙ ap (λ x. put_init (bare_init i) (x)) (kept_more_inits is (r))
 
   kept_more_inits : (x : Inits) (r : List Piece) → tokens_of (pieces_more_inits x r) ≡ put_more_inits (bare_inits x) (tokens_of r)
   kept_more_inits m.no_inits r = refl
-  kept_more_inits (m.init i is) r = 
+  kept_more_inits (m.init i is) r =
       ap (λ x. (mark t.Com) ∷ x) (kept_init i (pieces_more_inits is (r)))
       ∙ ap (λ x. (mark t.Com) ∷ put_init (bare_init i) (x)) (kept_more_inits is (r))
 
@@ -253,18 +253,18 @@ kept_attributes : (xs : List Attribute) (r : List Piece) → tokens_of (pieces_a
 kept_attributes xs r = kept_all pieces_attribute bare_attribute put_attribute kept_attribute xs r
 
 kept_item : (i : Item) (r : List Piece) → tokens_of (pieces_item i r) ≡ put_item (bare_item i) (tokens_of r)
-kept_item i r = 
-      kept_declarator i.declarator (pieces_all pieces_attribute i.attributes (pieces_maybe_init i.init (closes i.at ∷ r)))
-      ∙ ap (λ x. put_declarator (bare_declarator i.declarator) (x)) (kept_attributes i.attributes (pieces_maybe_init i.init (closes i.at ∷ r)))
-      ∙ ap (λ x. put_declarator (bare_declarator i.declarator) (put_all put_attribute (map bare_attribute i.attributes) (x))) (kept_maybe_init i.init (closes i.at ∷ r))
+kept_item i r =
+    kept_declarator i.declarator (pieces_all pieces_attribute i.attributes (pieces_maybe_init i.init (closes i.at ∷ r)))
+    ∙ ap (λ x. put_declarator (bare_declarator i.declarator) (x)) (kept_attributes i.attributes (pieces_maybe_init i.init (closes i.at ∷ r)))
+    ∙ ap (λ x. put_declarator (bare_declarator i.declarator) (put_all put_attribute (map bare_attribute i.attributes) (x))) (kept_maybe_init i.init (closes i.at ∷ r))
 
 kept_items : (xs : List Item) (r : List Piece) → tokens_of (pieces_commas pieces_item xs r) ≡ put_commas put_item (map bare_item xs) (tokens_of r)
 kept_items xs r = kept_commas pieces_item bare_item put_item kept_item xs r
 
 kept_declaration : (d : Declaration) (r : List Piece) → tokens_of (pieces_declaration d r) ≡ put_declaration (bare_declaration d) (tokens_of r)
-kept_declaration d r = 
-      kept_specs d.specs (pieces_commas pieces_item d.items (token (mark t.Semi) ∷ closes d.at ∷ r))
-      ∙ ap (λ x. put_specs (bare_specs d.specs) (x)) (kept_items d.items (token (mark t.Semi) ∷ closes d.at ∷ r))
+kept_declaration d r =
+    kept_specs d.specs (pieces_commas pieces_item d.items (token (mark t.Semi) ∷ closes d.at ∷ r))
+    ∙ ap (λ x. put_specs (bare_specs d.specs) (x)) (kept_items d.items (token (mark t.Semi) ∷ closes d.at ∷ r))
 
 kept_first : (x : First) (r : List Piece) → tokens_of (pieces_first x r) ≡ put_first (bare_first x) (tokens_of r)
 kept_first (m.FirstDeclaration d) r = kept_declaration d (r)
@@ -276,20 +276,20 @@ mutual
   kept_stmt : (x : Stmt) (r : List Piece) → tokens_of (pieces_stmt x r) ≡ put_stmt (bare_stmt x) (tokens_of r)
   kept_stmt (m.Block at is) r = ap (λ x. (mark t.LBrace) ∷ x) (kept_block is (token (mark t.RBrace) ∷ closes at ∷ r))
   kept_stmt (m.ExprStmt at e) r = kept_maybe e (token (mark t.Semi) ∷ closes at ∷ r)
-  kept_stmt (m.If at c a) r = 
+  kept_stmt (m.If at c a) r =
       ap (λ x. (word t.KIf) ∷ (mark t.LParen) ∷ x) (kept c (token (mark t.RParen) ∷ pieces_stmt a (closes at ∷ r)))
       ∙ ap (λ x. (word t.KIf) ∷ (mark t.LParen) ∷ put (bare c) ((mark t.RParen) ∷ x)) (kept_stmt a (closes at ∷ r))
-  kept_stmt (m.IfElse at c a b) r = 
+  kept_stmt (m.IfElse at c a b) r =
       ap (λ x. (word t.KIf) ∷ (mark t.LParen) ∷ x) (kept c (token (mark t.RParen) ∷ pieces_stmt a (token (word t.KElse) ∷ pieces_stmt b (closes at ∷ r))))
       ∙ ap (λ x. (word t.KIf) ∷ (mark t.LParen) ∷ put (bare c) ((mark t.RParen) ∷ x)) (kept_stmt a (token (word t.KElse) ∷ pieces_stmt b (closes at ∷ r)))
       ∙ ap (λ x. (word t.KIf) ∷ (mark t.LParen) ∷ put (bare c) ((mark t.RParen) ∷ put_stmt (bare_stmt a) ((word t.KElse) ∷ x))) (kept_stmt b (closes at ∷ r))
-  kept_stmt (m.While at c a) r = 
+  kept_stmt (m.While at c a) r =
       ap (λ x. (word t.KWhile) ∷ (mark t.LParen) ∷ x) (kept c (token (mark t.RParen) ∷ pieces_stmt a (closes at ∷ r)))
       ∙ ap (λ x. (word t.KWhile) ∷ (mark t.LParen) ∷ put (bare c) ((mark t.RParen) ∷ x)) (kept_stmt a (closes at ∷ r))
-  kept_stmt (m.Do at a c) r = 
+  kept_stmt (m.Do at a c) r =
       ap (λ x. (word t.KDo) ∷ x) (kept_stmt a (token (word t.KWhile) ∷ token (mark t.LParen) ∷ pieces c (token (mark t.RParen) ∷ token (mark t.Semi) ∷ closes at ∷ r)))
       ∙ ap (λ x. (word t.KDo) ∷ put_stmt (bare_stmt a) ((word t.KWhile) ∷ (mark t.LParen) ∷ x)) (kept c (token (mark t.RParen) ∷ token (mark t.Semi) ∷ closes at ∷ r))
-  kept_stmt (m.For at i c e a) r = 
+  kept_stmt (m.For at i c e a) r =
       ap (λ x. (word t.KFor) ∷ (mark t.LParen) ∷ x) (kept_first i (pieces_maybe c (token (mark t.Semi) ∷ pieces_maybe e (token (mark t.RParen) ∷ pieces_stmt a (closes at ∷ r)))))
       ∙ ap (λ x. (word t.KFor) ∷ (mark t.LParen) ∷ put_first (bare_first i) (x)) (kept_maybe c (token (mark t.Semi) ∷ pieces_maybe e (token (mark t.RParen) ∷ pieces_stmt a (closes at ∷ r))))
       ∙ ap (λ x. (word t.KFor) ∷ (mark t.LParen) ∷ put_first (bare_first i) (put_maybe (bare_maybe c) ((mark t.Semi) ∷ x))) (kept_maybe e (token (mark t.RParen) ∷ pieces_stmt a (closes at ∷ r)))
@@ -300,19 +300,19 @@ mutual
 
   kept_block : (x : BlockItems) (r : List Piece) → tokens_of (pieces_block x r) ≡ put_block (bare_block x) (tokens_of r)
   kept_block m.no_items r = refl
-  kept_block (m.declared d is) r = 
+  kept_block (m.declared d is) r =
       kept_declaration d (pieces_block is (r))
       ∙ ap (λ x. put_declaration (bare_declaration d) (x)) (kept_block is (r))
-  kept_block (m.statement s is) r = 
+  kept_block (m.statement s is) r =
       kept_stmt s (pieces_block is (r))
       ∙ ap (λ x. put_stmt (bare_stmt s) (x)) (kept_block is (r))
 
 kept_external : (x : External) (r : List Piece) → tokens_of (pieces_external x r) ≡ put_external (bare_external x) (tokens_of r)
 kept_external (m.Declares d) r = kept_declaration d r
-kept_external (m.Definition at ss d body is) r = 
-      kept_specs ss (pieces_declarator d (opens body ∷ token (mark t.LBrace) ∷ pieces_block is (token (mark t.RBrace) ∷ closes body ∷ closes at ∷ r)))
-      ∙ ap (λ x. put_specs (bare_specs ss) (x)) (kept_declarator d (opens body ∷ token (mark t.LBrace) ∷ pieces_block is (token (mark t.RBrace) ∷ closes body ∷ closes at ∷ r)))
-      ∙ ap (λ x. put_specs (bare_specs ss) (put_declarator (bare_declarator d) ((mark t.LBrace) ∷ x))) (kept_block is (token (mark t.RBrace) ∷ closes body ∷ closes at ∷ r))
+kept_external (m.Definition at ss d body is) r =
+    kept_specs ss (pieces_declarator d (opens body ∷ token (mark t.LBrace) ∷ pieces_block is (token (mark t.RBrace) ∷ closes body ∷ closes at ∷ r)))
+    ∙ ap (λ x. put_specs (bare_specs ss) (x)) (kept_declarator d (opens body ∷ token (mark t.LBrace) ∷ pieces_block is (token (mark t.RBrace) ∷ closes body ∷ closes at ∷ r)))
+    ∙ ap (λ x. put_specs (bare_specs ss) (put_declarator (bare_declarator d) ((mark t.LBrace) ∷ x))) (kept_block is (token (mark t.RBrace) ∷ closes body ∷ closes at ∷ r))
 
 pub kept_unit : (u : List External) → tokens_of (pieces_unit u []) ≡ toks (bare_unit u)
 kept_unit u = kept_all pieces_external bare_external put_external kept_external u []

@@ -54,8 +54,8 @@ DepthsAre = WfUnit [] (deep 197) × (unit_depth (deep 197) ≡ 200) × IsFlat (d
 abbrev pub pointer_and_array : List External
 pointer_and_array =
     declares int (
-      item (u.FunctionOf (u.Group (u.PointerTo [] (named (codes "f")))) (u.Param int u.no_declarator u.no_params)) u.no_init
-      ∷ item (u.PointerTo [] (u.ArrayOf (named (codes "a")) (u.some_expr (u.Number (codes "3"))))) u.no_init ∷ []) ∷ []
+    item (u.FunctionOf (u.Group (u.PointerTo [] (named (codes "f")))) (u.Param int u.no_declarator u.no_params)) u.no_init
+    ∷ item (u.PointerTo [] (u.ArrayOf (named (codes "a")) (u.some_expr (u.Number (codes "3"))))) u.no_init ∷ []) ∷ []
 
 abbrev pub DeclaratorsAre : Type 0
 DeclaratorsAre = WfUnit [] pointer_and_array × (text_of pointer_and_array ≡ codes "int ( * f ) ( int ) , * a [ 3 ] ;")
@@ -164,10 +164,10 @@ marked =
       items = record {
         at = at 4 12 5;
         declarator = m.FunctionOf (at 4 12 4) (m.Declared (at 4 5 0) (Some (codes "f")))
-          (m.Param (at 6 11 3) (m.Keyword t.KInt m.no_specs) (m.some_declarator (m.PointerTo (at 10 11 2) [] (m.Declared (at 11 11 1) None))) m.no_params);
+            (m.Param (at 6 11 3) (m.Keyword t.KInt m.no_specs) (m.some_declarator (m.PointerTo (at 10 11 2) [] (m.Declared (at 11 11 1) None))) m.no_params);
         attributes = [];
-        init = m.no_init
-      } ∷ []
+        init = m.no_init;
+      } ∷ [];
     }) ∷ []
 
 abbrev pub PlacesAre : Type 0
