@@ -1,5 +1,5 @@
 -- The examples, computed.
-use Rattle.std.proofs.Common.{◌≡◌, ℕ, ◌≤◌, inl, inr, List, [], ◌∷◌, Bool, true, false, refl, sym, subst, arith, ◌++◌}
+use Rattle.std.proofs.Common.{◌≡◌, ℕ, ◌≤◌, inl, List, [], ◌∷◌, true, false, refl, sym, subst, arith, ◌++◌}
 use Rattle.std.specs.Prelude.{codes}
 use Rattle.c_lexer.specs.Name as lexis
 use Rattle.c_lexer.specs.Number.{IsConstant, decimal, octal, hexadecimal, suffixes, is_suffix}
@@ -7,8 +7,7 @@ use Rattle.c_lexer.specs.Bytes.{is_between, is_octal, Each}
 use Rattle.c_tree.specs.Tree as u
 use Rattle.c_tree.specs.Text.{IsName, IsNumber}
 use Rattle.c_tree.specs.Wf.{WfUnit}
-use Rattle.c_tree.specs.Depth.{IsFlat}
-use Rattle.c_tree.specs.Examples.{int, deep, pointer_and_array, same_name, type_as_operand, name_as_type, returns_one, inner_else, outer_else, empty_cast, product, sum_of, keyword_as_name, no_octal, empty_arguments}
+use Rattle.c_tree.specs.Examples.{int, deep, same_name, type_as_operand, name_as_type, returns_one, inner_else, outer_else, empty_cast, product, sum_of, keyword_as_name, no_octal, empty_arguments}
 use Rattle.c_tree.specs.Examples.{DepthsAre, DeclaratorsAre, TypedefNamesAre, StatementsAre, ExpressionsAre, AttributesAre, PlacesAre}
 
 there : int ≡ u.no_specs → ⊥

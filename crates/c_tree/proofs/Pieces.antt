@@ -3,13 +3,12 @@ use Rattle.std.proofs.Common.{◌≡◌, ℕ, Bool, true, false, List, [], ◌�
 use Rattle.c_tree.specs.Tok as t
 use Rattle.c_tree.specs.Tok.{Tok, Word, name, word, number, char, text, mark}
 use Rattle.c_tree.specs.Marks.{binary_mark, assign_mark, prefix_mark, step_mark, record_word}
-use Rattle.c_tree.specs.Tree as u
 use Rattle.c_tree.specs.Marked as m
 use Rattle.c_tree.specs.Marked.{Expr, TypeName, Exprs, MaybeExpr, Specs, Fields, MaybeFields, Declarators, Declarator, MaybeDeclarator, Enumerators, MaybeEnumerators, Params, Init, Inits, MaybeInit, Item, Declaration, First, Stmt, BlockItems, External, Entry, Argument, Attribute}
 use Rattle.c_tree.specs.declared.operator.At.{At}
 use Rattle.c_tree.specs.Bare.{bare, bare_cast, bare_sizeof, bare_exprs, bare_maybe, bare_specs, bare_body, bare_fields, bare_declarators, bare_list, bare_enumerators, bare_maybe_declarator, bare_declarator, bare_params, bare_init, bare_inits, bare_maybe_init, bare_item, bare_declaration, bare_first, bare_stmt, bare_block, bare_external, bare_unit, bare_argument, bare_arguments, bare_entry, bare_attribute}
-use Rattle.c_tree.specs.Put.{put, put_exprs, put_more_exprs, put_maybe, put_value, put_specs, put_body, put_fields, put_declarators, put_more_declarators, put_list, put_enumerators, put_more_enumerators, put_maybe_declarator, put_declarator, put_params, put_more_params, put_init, put_inits, put_more_inits, put_maybe_init, put_item, put_declaration, put_first, put_stmt, put_block, put_external, put_unit, put_all, put_more, put_commas, put_name, put_comma_if, put_text, put_word, put_argument, put_arguments, put_entry, put_attribute, toks}
-use Rattle.c_tree.specs.Pieces.{Piece, token, opens, closes, absent, tokens_of, pieces, pieces_exprs, pieces_more_exprs, pieces_maybe, pieces_value, pieces_type, pieces_specs, pieces_body, pieces_fields, pieces_declarators, pieces_more_declarators, pieces_list, pieces_enumerators, pieces_more_enumerators, pieces_maybe_declarator, pieces_declarator, pieces_params, pieces_more_params, pieces_init, pieces_inits, pieces_more_inits, pieces_maybe_init, pieces_item, pieces_declaration, pieces_first, pieces_stmt, pieces_block, pieces_external, pieces_unit, pieces_all, pieces_more, pieces_commas, pieces_name, pieces_comma_if, pieces_text, pieces_word, pieces_argument, pieces_arguments, pieces_entry, pieces_attribute}
+use Rattle.c_tree.specs.Put.{put, put_exprs, put_more_exprs, put_maybe, put_value, put_specs, put_body, put_fields, put_declarators, put_more_declarators, put_list, put_enumerators, put_more_enumerators, put_maybe_declarator, put_declarator, put_params, put_more_params, put_init, put_inits, put_more_inits, put_maybe_init, put_item, put_declaration, put_first, put_stmt, put_block, put_external, put_all, put_more, put_commas, put_name, put_comma_if, put_text, put_word, put_argument, put_arguments, put_entry, put_attribute, toks}
+use Rattle.c_tree.specs.Pieces.{Piece, token, opens, closes, tokens_of, pieces, pieces_exprs, pieces_more_exprs, pieces_maybe, pieces_value, pieces_specs, pieces_body, pieces_fields, pieces_declarators, pieces_more_declarators, pieces_list, pieces_enumerators, pieces_more_enumerators, pieces_maybe_declarator, pieces_declarator, pieces_params, pieces_more_params, pieces_init, pieces_inits, pieces_more_inits, pieces_maybe_init, pieces_item, pieces_declaration, pieces_first, pieces_stmt, pieces_block, pieces_external, pieces_unit, pieces_all, pieces_more, pieces_commas, pieces_name, pieces_comma_if, pieces_text, pieces_word, pieces_argument, pieces_arguments, pieces_entry, pieces_attribute}
 
 -- ---- lists
 

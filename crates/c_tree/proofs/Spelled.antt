@@ -1,12 +1,11 @@
 -- What a well-formed unit spells are tokens of C.
-use Rattle.std.proofs.Common.{◌≡◌, ℕ, ◌≤◌, ◌||◌, Bool, true, false, List, [], ◌∷◌, map, Option, Some, None, refl}
+use Rattle.std.proofs.Common.{◌≡◌, ℕ, ◌||◌, Bool, true, false, List, [], ◌∷◌, map, Option, Some, None, refl}
 use Rattle.std.specs.Prelude.{All}
 use Rattle.std.proofs.lemmas.List.Elements.{All-cons, All-nil}
 use Rattle.std.specs.List.{AllByRecursion}
 use Rattle.c_lexer.specs.Name as lexis
 use Rattle.c_lexer.specs.Mark as lexis_mark
 use Rattle.c_lexer.specs.Lexeme.{IsLexeme}
-use Rattle.tok_base.specs.declared.token.Lexeme.{Lexeme}
 use Rattle.c_tree.specs.Lexeme.{lexeme}
 use Rattle.c_tree.specs.Tok as t
 use Rattle.c_tree.specs.Tok.{Tok, Word, Punct, name, word, other, number, char, text, mark}
@@ -14,7 +13,7 @@ use Rattle.c_tree.specs.Text.{IsName, IsText}
 use Rattle.c_tree.specs.Marks.{binary_mark, assign_mark, prefix_mark, step_mark, record_word}
 use Rattle.c_tree.specs.Tree as u
 use Rattle.c_tree.specs.Tree.{Expr, Exprs, MaybeExpr, Specs, Fields, MaybeFields, Declarators, Declarator, MaybeDeclarator, Enumerators, MaybeEnumerators, Params, Init, Inits, MaybeInit, Item, Declaration, First, Stmt, BlockItems, External, Entry, Argument}
-use Rattle.c_tree.specs.Wf.{Env, is_specifier, specified, IsOptName, WfTexts, WfArgument, WfArguments, WfAttribute, Wf, WfAll, WfSome, WfMaybe, WfSpecs, WfBody, WfFields, WfMoreFields, WfDeclarators, WfMoreDeclarators, WfList, WfEnumerators, WfMoreEnumerators, WfAbstract, WfEither, WfDeclarator, WfParams, WfInit, WfInits, WfMoreInits, WfMaybeInit, after_declarator, after_declaration, after_items, WfItems, WfDeclaration, after_first, WfFirst, after_stmt, after_block, WfStmt, WfBlock, after_external, WfExternal, WfUnit}
+use Rattle.c_tree.specs.Wf.{Env, is_specifier, specified, IsOptName, WfArgument, WfArguments, WfAttribute, Wf, WfAll, WfSome, WfMaybe, WfSpecs, WfBody, WfFields, WfMoreFields, WfDeclarators, WfMoreDeclarators, WfList, WfEnumerators, WfMoreEnumerators, WfAbstract, WfEither, WfDeclarator, WfParams, WfInit, WfInits, WfMoreInits, WfMaybeInit, after_declarator, after_declaration, WfItems, WfDeclaration, after_first, WfFirst, after_stmt, WfStmt, WfBlock, after_external, WfExternal, WfUnit}
 use Rattle.c_tree.specs.Put.{put, put_exprs, put_more_exprs, put_maybe, put_value, put_specs, put_body, put_fields, put_declarators, put_more_declarators, put_list, put_enumerators, put_more_enumerators, put_maybe_declarator, put_declarator, put_params, put_more_params, put_init, put_inits, put_more_inits, put_maybe_init, put_item, put_declaration, put_first, put_stmt, put_block, put_external, put_unit, put_all, put_more, put_commas, put_name, put_comma_if, put_text, put_word, put_argument, put_arguments, put_entry, put_attribute, toks}
 use Rattle.c_tree.specs.Reading.{spelled}
 

@@ -1,5 +1,5 @@
 -- Small units on which the definitions are computed.
-use Rattle.std.specs.Prelude.{◌≡◌, ℕ, suc, zero, false, true, List, [], ◌∷◌, codes, Some, None}
+use Rattle.std.specs.Prelude.{◌≡◌, ℕ, suc, zero, List, [], ◌∷◌, codes, Some, None}
 use Rattle.std.specs.List.{join_by}
 use Rattle.tok_base.specs.declared.token.Span.{Span}
 use Rattle.c_tree.specs.Tok as t

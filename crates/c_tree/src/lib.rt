@@ -18,3 +18,6 @@ pub use promises::{lexeme_law, pieces_law, some_examples, spelling_law};
 pub use statement::{
     Block, BlockItem, Declaration, Definition, External, ForFirst, Init, Item, Stmt, Unit,
 };
+
+#[cfg(test)]
+mod tests;
