@@ -2,4 +2,3 @@ pub mod Lexemes
 pub mod Views
 pub mod Examples
 pub mod Pieces
-pub mod Spelled

@@ -1,13 +1,10 @@
 -- What holds of the definitions: statements that the functions of src/promises.rt carry.
-use Rattle.std.specs.Prelude.{◌≡◌, List, [], All, IsSome, Some}
+use Rattle.std.specs.Prelude.{◌≡◌, List, [], IsSome, Some}
 use Rattle.tok_base.specs.declared.token.Lexeme.{Lexeme}
 use Rattle.c_lexer.specs.Lexeme.{IsLexeme}
 use Rattle.c_tree.specs.Tok.{Tok}
 use Rattle.c_tree.specs.Lexeme.{lexeme, classify}
 use Rattle.c_tree.specs.Marked.{External}
-use Rattle.c_tree.specs.Tree as u
-use Rattle.c_tree.specs.Wf.{WfUnit}
-use Rattle.c_tree.specs.Reading.{spelled}
 use Rattle.c_tree.specs.Bare.{bare_unit}
 use Rattle.c_tree.specs.Put.{toks}
 use Rattle.c_tree.specs.Pieces.{pieces_unit, tokens_of}
@@ -27,7 +24,3 @@ LexemesAreTold = (l : Lexeme) → IsLexeme l → IsSome (classify l)
 -- the nodes of a unit begin and end between the tokens that it spells
 abbrev pub PiecesAreTokens : Type 0
 PiecesAreTokens = (u : List External) → tokens_of (pieces_unit u []) ≡ toks (bare_unit u)
-
--- what a well-formed unit spells are tokens of C
-abbrev pub SpelledAreTokens : Type 0
-SpelledAreTokens = (u : List u.External) → WfUnit [] u → All IsLexeme (spelled u)

@@ -14,7 +14,7 @@ pub use expression::{
     Param, Record, Spec, TypeName,
 };
 pub use operator::{AssignOp, At, BinaryOp, Keyword, PrefixOp, Qualifier, Step};
-pub use promises::{lexeme_law, pieces_law, some_examples, spelling_law};
+pub use promises::{lexeme_law, pieces_law, some_examples};
 pub use statement::{
     Block, BlockItem, Declaration, Definition, External, ForFirst, Init, Item, Stmt, Unit,
 };

@@ -1,7 +1,7 @@
 //! Laws of the definitions: empty functions whose contracts state them.
 
 ghost use Rattle.c_tree.specs.Examples.{AttributesAre, DeclaratorsAre, DepthsAre, ExpressionsAre, PlacesAre, StatementsAre, TypedefNamesAre};
-ghost use Rattle.c_tree.specs.Laws.{LexemesAreKept, LexemesAreTold, PiecesAreTokens, SpelledAreTokens, TokensAreTold};
+ghost use Rattle.c_tree.specs.Laws.{LexemesAreKept, LexemesAreTold, PiecesAreTokens, TokensAreTold};
 
 /// The tokens of the grammar are the kinds and texts of the lexis.
 pub fn lexeme_law()
@@ -24,9 +24,4 @@ pub fn some_examples()
 /// A unit with its places and numbers spells what it spells without them.
 pub fn pieces_law()
     ensures { PiecesAreTokens }
-{}
-
-/// What a well-formed unit spells are tokens of C.
-pub fn spelling_law()
-    ensures { SpelledAreTokens }
 {}
