@@ -12,3 +12,4 @@ pub mod View
 pub mod Lexeme
 pub mod Pieces
 pub mod Places
+pub mod Printed

@@ -1,5 +1,5 @@
 -- Which trees are well formed. env has the typedef names so far; it changes only at the declarators of a declaration.
-use Rattle.std.specs.Prelude.{◌≡◌, ℕ, suc, ◌≤◌, ◌⊎◌, Bool, true, false, ◌||◌, List, [], ◌∷◌, ◌++◌, Option, Some, None, IsSome, IsNone}
+use Rattle.std.specs.Prelude.{◌≡◌, ℕ, suc, ◌≤◌, ◌⊎◌, Bool, true, false, ◌||◌, List, [], ◌∷◌, Option, Some, None, IsSome, IsNone}
 use Rattle.std.specs.List.{list_any, AllByRecursion}
 use Rattle.c_tree.specs.Tok as t
 use Rattle.c_tree.specs.Tok.{Word}

@@ -4,6 +4,7 @@
 #![tactic(auto)]
 
 mod expression;
+mod laws;
 mod operator;
 mod statement;
 
@@ -11,5 +12,6 @@ pub use expression::{
     Attribute, AttributeArgument, Declarator, Entry, Enum, Enumerator, EnumeratorList, Expr, Field, Param, Record,
     Spec, TypeName,
 };
+pub use laws::{print_law, put_law, valid_law};
 pub use operator::{AssignOp, At, BinaryOp, Keyword, PrefixOp, Qualifier, Step};
 pub use statement::{Block, BlockItem, Declaration, Definition, External, ForFirst, Init, Item, Stmt, Unit};
