@@ -1,5 +1,5 @@
 -- A token as a kind and a text (ISO/IEC 9899:2018, 6.4.1 and 6.4.6).
-use Rattle.std.specs.Prelude.{ℕ, List, [], ◌∷◌, codes, bytes_eq, Option, Some, None, if◌then◌else◌}
+use Rattle.std.specs.Prelude.{◌≡◌, ℕ, List, [], ◌∷◌, codes, bytes_eq, Option, Some, None, if◌then◌else◌}
 use Rattle.tok_base.specs.declared.token.Lexeme.{Lexeme}
 use Rattle.tok_base.specs.declared.token.Kind.{Kind}
 use Rattle.tok_base.specs.declared.token.Kind.TheVariants.{Name, Word, Number, Char, Text, Mark}

@@ -12,4 +12,5 @@ pub mod View
 pub mod Lexeme
 pub mod Pieces
 pub mod Places
+pub mod Laws
 pub mod Printed

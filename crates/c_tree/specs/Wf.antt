@@ -1,5 +1,7 @@
--- Which trees are well formed. env has the typedef names so far; it changes only at the declarators of a declaration.
-use Rattle.std.specs.Prelude.{◌≡◌, ℕ, suc, ◌≤◌, ◌⊎◌, Bool, true, false, ◌||◌, List, [], ◌∷◌, Option, Some, None, IsSome, IsNone}
+-- Which trees are well formed (ISO/IEC 9899:2018, A.2): each part has the level that its place demands, each token is one, and
+-- names are typedef names where the grammar takes them as such. env has the typedef names so far; it changes only at the
+-- declarators of a declaration and of a definition.
+use Rattle.std.specs.Prelude.{◌≡◌, ℕ, suc, ◌≤◌, ◌⊎◌, Bool, true, false, ◌||◌, List, [], ◌∷◌, ◌++◌, Option, Some, None, IsSome, IsNone}
 use Rattle.std.specs.List.{list_any, AllByRecursion}
 use Rattle.c_tree.specs.Tok as t
 use Rattle.c_tree.specs.Tok.{Word}
@@ -13,7 +15,9 @@ Env = List (List ℕ)
 abbrev pub is_type : Env → List ℕ → Bool
 is_type env n = list_any (same_text n) env
 
--- ---- levels of expressions, the weakest first
+-- ---- levels of expressions, the weakest first: expression 1 (6.5.17), assignment-expression 2 (6.5.16),
+-- conditional-expression 3 (6.5.15), binary operators 4 (6.5.14) to 13 (6.5.5), cast-expression 14 (6.5.4),
+-- unary-expression 15 (6.5.3), postfix-expression and primary-expression 16 (6.5.2, 6.5.1)
 
 abbrev pub prec : BinaryOp → ℕ
 prec u.Or = 4

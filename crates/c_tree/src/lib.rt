@@ -6,12 +6,16 @@
 mod expression;
 mod laws;
 mod operator;
+mod promises;
 mod statement;
 
 pub use expression::{
-    Attribute, AttributeArgument, Declarator, Entry, Enum, Enumerator, EnumeratorList, Expr, Field, Param, Record,
-    Spec, TypeName,
+    Attribute, AttributeArgument, Declarator, Entry, Enum, Enumerator, EnumeratorList, Expr, Field,
+    Param, Record, Spec, TypeName,
 };
 pub use laws::{print_law, put_law, valid_law};
 pub use operator::{AssignOp, At, BinaryOp, Keyword, PrefixOp, Qualifier, Step};
-pub use statement::{Block, BlockItem, Declaration, Definition, External, ForFirst, Init, Item, Stmt, Unit};
+pub use promises::lexeme_law;
+pub use statement::{
+    Block, BlockItem, Declaration, Definition, External, ForFirst, Init, Item, Stmt, Unit,
+};
