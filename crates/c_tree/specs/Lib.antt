@@ -14,3 +14,4 @@ pub mod Pieces
 pub mod Places
 pub mod Laws
 pub mod Examples
+pub mod Printed

@@ -4,6 +4,7 @@
 #![tactic(auto)]
 
 mod expression;
+mod laws;
 pub mod make;
 mod operator;
 mod promises;
@@ -13,6 +14,7 @@ pub use expression::{
     Attribute, AttributeArgument, Declarator, Entry, Enum, Enumerator, EnumeratorList, Expr, Field,
     Param, Record, Spec, TypeName,
 };
+pub use laws::{print_law, put_law, valid_law};
 pub use operator::{AssignOp, At, BinaryOp, Keyword, PrefixOp, Qualifier, Step};
 pub use promises::{lexeme_law, pieces_law, some_examples};
 pub use statement::{

@@ -1,7 +1,6 @@
 //! Each constructor once, with ample memory.
 
-use crate::make;
-use crate::{At, Declarator, Expr, Init, Spec, Stmt, TypeName};
+use crate::{At, Declarator, Expr, Init, Spec, Stmt, TypeName, make};
 use std::alloc::Global;
 use tok_base::{Bytes, Items, NoMemory, Span};
 
@@ -28,11 +27,13 @@ fn expressions(alloc: Global) -> Result<bool, NoMemory> {
     let cast = make::cast(alloc, AT, type_name(alloc), number(alloc)?)?;
     let size = make::sizeof_type(alloc, AT, type_name(alloc))?;
     let boxed = make::boxed(alloc, number(alloc)?)?;
-    Ok(matches!(&call, Expr::Call(..))
-        && matches!(&builtin, Expr::Builtin(..))
-        && matches!(&cast, Expr::Cast(..))
-        && matches!(&size, Expr::SizeofType(..))
-        && matches!(&*boxed, Expr::Number(..)))
+    Ok(
+        matches!(&call, Expr::Call(..))
+            && matches!(&builtin, Expr::Builtin(..))
+            && matches!(&cast, Expr::Cast(..))
+            && matches!(&size, Expr::SizeofType(..))
+            && matches!(&*boxed, Expr::Number(..)),
+    )
 }
 
 fn others(alloc: Global) -> Result<bool, NoMemory> {
@@ -42,11 +43,13 @@ fn others(alloc: Global) -> Result<bool, NoMemory> {
     let function = make::function_of(alloc, AT, Declarator::Declared(AT, None), Items::new(alloc))?;
     let braces = make::braces(AT, Items::new(alloc), true);
     let block = make::block(AT, Items::new(alloc));
-    Ok(matches!(&record, Spec::Record(..))
-        && matches!(&enumeration, Spec::Enum(..))
-        && matches!(&function, Declarator::FunctionOf(..))
-        && matches!(&braces, Init::Braces(..))
-        && matches!(&block, Stmt::Block(..)))
+    Ok(
+        matches!(&record, Spec::Record(..))
+            && matches!(&enumeration, Spec::Enum(..))
+            && matches!(&function, Declarator::FunctionOf(..))
+            && matches!(&braces, Init::Braces(..))
+            && matches!(&block, Stmt::Block(..)),
+    )
 }
 
 #[test]
