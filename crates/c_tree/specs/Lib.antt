@@ -1,0 +1,17 @@
+pub mod Tok
+pub mod Tree
+pub mod Marks
+pub mod Text
+pub mod Put
+pub mod Wf
+pub mod Depth
+pub mod Reading
+pub mod Marked
+pub mod Bare
+pub mod View
+pub mod Lexeme
+pub mod Pieces
+pub mod Places
+pub mod Laws
+pub mod Examples
+pub mod Printed
