@@ -1,0 +1,4 @@
+pub mod Blocks
+pub mod History
+pub mod Sound
+pub mod Seen
