@@ -1,3 +1,4 @@
 pub mod Clear
 pub mod Histories
 pub mod Keeping
+pub mod Apart

@@ -7,7 +7,13 @@
 #![tactic(auto)]
 
 mod call;
+mod half;
 mod heap;
+mod laws;
+mod ranges;
 
 pub use call::{HeapCall, HeapEvent};
+pub use half::Half;
 pub use heap::RangeHeap;
+pub use laws::{live_starts_differ, ranges_stay_apart, sizes_are_rounded_up};
+pub use ranges::Ranges;
