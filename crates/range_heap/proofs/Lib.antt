@@ -2,3 +2,4 @@ pub mod Clear
 pub mod Histories
 pub mod Keeping
 pub mod Apart
+pub mod Noting

@@ -1,6 +1,10 @@
 -- What a call on one of the ranges changes.
-use Rattle.std.specs.Prelude.{◌≡◌, ℕ, ◌+◌, ◌<◌, ◌≤◌, true, false, List, [], ◌∷◌, ◌++◌, length, slice_index_or, slice_set, Option, Result, IfSome, OnOk, MatchOption}
+use Rattle.std.specs.Prelude.{map, ◌≡◌, ℕ, ◌+◌, ◌<◌, ◌≤◌, true, false, List, [], ◌∷◌, ◌++◌, length, slice_index_or, slice_set, Option, Result, IfSome, OnOk, MatchOption}
+use Rattle.range_heap.specs.declared.call.HeapCall.{HeapCall}
+use Rattle.range_heap.specs.declared.call.HeapEvent.{HeapEvent}
 use Rattle.range_heap.specs.declared.call.HeapEvent.TheVariants.{Grant, Refuse, Release}
+use Rattle.range_heap.specs.declared.call.RangeCall.{RangeCall}
+use Rattle.range_heap.specs.declared.call.RangeCall.TheVariants.{Ask, GiveBack}
 use Rattle.range_heap.specs.Blocks.{live}
 use Rattle.range_heap.specs.History.{call_of}
 use Rattle.range_heap.specs.Seen.{Kept, AllHeaps}
@@ -38,3 +42,27 @@ pub record HasLive (all : AllHeaps) (place t : ℕ) : Type 0 where
   pub within : t < length all.heaps
   pub is_live : (d : Kept) → live place (slice_index_or all.heaps t d).history ≡ true
   pub room : (d : Kept) → 0 < (slice_index_or all.heaps t d).room
+
+abbrev pub histories : AllHeaps → List (List HeapCall)
+histories all = map (λ (k : Kept). k.history) all.heaps
+
+-- the histories with one more entry in range t
+abbrev pub noted : List (List HeapCall) → ℕ → HeapCall → List (List HeapCall)
+noted hs t e = slice_set hs t (slice_index_or hs t [] ++ e ∷ [])
+
+-- an event that answers a request for this many bytes
+abbrev pub Answers : ℕ → HeapEvent → Type 0
+Answers size (Grant s place) = s ≡ size
+Answers size (Refuse s) = s ≡ size
+Answers size (Release place) = ⊥
+
+-- what one call notes: a grant or a refusal where there is such a range, a release where a live block
+-- begins at the place, and else nothing
+abbrev pub Made : RangeCall → List (List HeapCall) → List (List HeapCall) → Type 0
+Made (Ask who token size) old new = (length old ≤ token → new ≡ old) × (token < length old → (e : HeapEvent) × Answers size e × (new ≡ noted old token (call_of who e)))
+Made (GiveBack who place) old new = ((t : ℕ) → t < length old → live place (slice_index_or old t []) ≡ true → new ≡ noted old t (call_of who (Release place))) × (((t : ℕ) → t < length old → live place (slice_index_or old t []) ≡ false) → new ≡ old)
+
+-- and what a list of calls notes, one after another
+abbrev pub MadeAll : List RangeCall → List (List HeapCall) → List (List HeapCall) → Type 0
+MadeAll [] old new = new ≡ old
+MadeAll (c ∷ cs) old new = (middle : List (List HeapCall)) × Made c old middle × MadeAll cs middle new

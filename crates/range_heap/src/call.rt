@@ -1,4 +1,4 @@
-//! The entries of a history.
+//! The entries of a history, and calls on all ranges.
 
 /// What happened.
 #[derive(Clone, Copy, Debug, PartialEq, Eq)]
@@ -16,4 +16,13 @@ pub enum HeapEvent {
 pub struct HeapCall {
     pub who: u32,
     pub what: HeapEvent,
+}
+
+/// A call on all ranges.
+#[derive(Clone, Copy, Debug, PartialEq, Eq)]
+pub enum RangeCall {
+    /// The caller `who` asks for `size` bytes in the range of `token`.
+    Ask { who: u32, token: u64, size: u128 },
+    /// The caller `who` gives back the block at `place`.
+    GiveBack { who: u32, place: u64 },
 }

@@ -10,9 +10,10 @@ mod call;
 mod half;
 mod heap;
 mod laws;
+mod making;
 mod ranges;
 
-pub use call::{HeapCall, HeapEvent};
+pub use call::{HeapCall, HeapEvent, RangeCall};
 pub use half::Half;
 pub use heap::RangeHeap;
 pub use laws::{live_starts_differ, ranges_stay_apart, sizes_are_rounded_up};

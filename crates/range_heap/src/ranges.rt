@@ -2,8 +2,8 @@
 
 ghost use Rattle.std.specs.Prelude.{◌≡◌, ℕ, ◌+◌, ◌*◌, ◌%◌, ◌<◌, ◌≤◌, List, [], map, length, slice_index_or, None, IfOk, OnOk, IfSome, IfNone, IsOk};
 ghost use Rattle.range_heap.specs.Seen.{Kept};
-ghost use Rattle.range_heap.specs.Ranges.{range_first, InRange, half_of};
-ghost use Rattle.range_heap.specs.Steps.{Granted, Released, Roomier, Changed, HasLive};
+ghost use Rattle.range_heap.specs.Ranges.{range_first, InRange, half_of, AllLegal, StayApart};
+ghost use Rattle.range_heap.specs.Steps.{Granted, Released, Roomier, Changed, HasLive, histories};
 
 use crate::half::Half;
 use crate::heap::RangeHeap;
@@ -135,5 +135,16 @@ impl Ranges {
         ensures size { result.now.size ≡ self.now.size }
     {
         &self.heaps[token as usize]
+    }
+
+    /// What always holds: each history is legal in its range, so that no two live blocks meet and the
+    /// storage of the halves is disjoint. It does nothing.
+    pub fn stands(&self)
+        ensures legal { AllLegal self.now.size (histories self.now) }
+        ensures apart { StayApart (histories self.now) }
+        ensures some { 0 < length self.now.heaps }
+        ensures most { length self.now.heaps ≤ 256 }
+    {
+        let _ = &self.heaps;
     }
 }
