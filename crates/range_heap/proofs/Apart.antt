@@ -1,18 +1,17 @@
 -- Blocks of legal histories begin at different places, and those of different ranges do not meet.
-use Rattle.std.proofs.Common.{zero, suc, ◌≡◌, ◌≢◌, ◌⊎◌, ⊎_elim, inl, inr, ℕ, ◌+◌, ◌-◌, ◌*◌, ◌/◌, ◌%◌, ◌<◌, ◌≤◌, Bool, true, false, cond, nat_lt, nat_eq, List, [], ◌∷◌, ◌++◌, length, get_or, Option, Some, None, refl, sym, ap, ◌∙◌, subst, arith}
-use Rattle.std.proofs.lemmas.Bool.{cases_lt, cases_order, ltb-true, ltb-false}
+use Rattle.std.proofs.Common.{zero, suc, ◌≡◌, ◌≢◌, ◌⊎◌, ⊎_elim, inl, inr, ℕ, ◌+◌, ◌-◌, ◌*◌, ◌/◌, ◌<◌, ◌≤◌, Bool, true, false, cond, nat_lt, List, [], ◌∷◌, ◌++◌, length, get_or, Some, None, refl, ap, ◌∙◌, subst, arith}
+use Rattle.std.proofs.lemmas.Bool.{ltb-true, ltb-false}
 use Rattle.std.proofs.lemmas.Nat.{row_fits, div-mul-add}
 use Rattle.range_heap.specs.declared.call.HeapCall.{HeapCall}
 use Rattle.range_heap.specs.declared.call.HeapEvent.{HeapEvent}
 use Rattle.range_heap.specs.declared.call.HeapEvent.TheVariants.{Grant, Refuse, Release}
-use Rattle.range_heap.specs.declared.half.Half.{Half}
 use Rattle.range_heap.specs.declared.half.Half.TheVariants.{Lower, Upper}
-use Rattle.range_heap.specs.Blocks.{rounded, Block, block, live_blocks, live_at, live, IsClear, AllApart}
-use Rattle.range_heap.specs.History.{Region, region, FitsAt, MayFollow, LegalFrom, Legal}
+use Rattle.range_heap.specs.Blocks.{rounded, Block, live_blocks, live_at, live, IsClear, AllApart}
+use Rattle.range_heap.specs.History.{Region, MayFollow, LegalFrom, Legal}
 use Rattle.range_heap.specs.Seen.{Kept}
-use Rattle.range_heap.specs.Ranges.{range_first, range_at, InRange, half_of, AllLegal, all_blocks, Grants, EverGranted, InStorage, StayApart, Standing}
+use Rattle.range_heap.specs.Ranges.{range_first, range_at, InRange, AllLegal, all_blocks, Grants, EverGranted, StayApart, Standing}
 use Rattle.range_heap.proofs.Clear.{rounded_some, some_of}
-use Rattle.range_heap.proofs.Histories.{AllWithin, Good, legal_good, within_at}
+use Rattle.range_heap.proofs.Histories.{AllWithin, legal_good, within_at}
 
 clear_get : (bs : List Block) (at n j : ℕ) (d : Block) → IsClear bs at n → j < length bs → (at + n ≤ (get_or bs j d).place) ⊎ ((get_or bs j d).place + rounded (get_or bs j d).size ≤ at)
 clear_get [] at n j d c lt = absurd (omega (arith, lt))
@@ -26,7 +25,7 @@ starts_differ (b ∷ bs) a zero (suc j) d lt within e =
     let some = rounded_some b.size in
     let more = rounded_some (get_or bs j d).size in
     ⊎_elim {C = ⊥} (λ (x : b.place + rounded b.size ≤ (get_or bs j d).place). omega (arith, x, e, some)) (λ (x : (get_or bs j d).place + rounded (get_or bs j d).size ≤ b.place). omega (arith, x, e, more))
-      (clear_get bs b.place (rounded b.size) j d a.0 (omega (arith, within)))
+    (clear_get bs b.place (rounded b.size) j d a.0 (omega (arith, within)))
 starts_differ (b ∷ bs) a (suc i) (suc j) d lt within e = starts_differ bs a.1 i j d (omega (arith, lt)) (omega (arith, within)) e
 
 pub live_starts : (r : Region) (h : List HeapCall) → Legal r h → (i j : ℕ) (d : Block) → i < j → j < length (live_blocks h) → (get_or (live_blocks h) i d).place ≢ (get_or (live_blocks h) j d).place
@@ -62,7 +61,8 @@ apart_append : (r : Region) (xs ys : List Block) → AllWithin r xs → AllApart
 apart_append r [] ys w a above b = b
 apart_append r (x ∷ xs) ys w a above b = (
   clear_append xs ys x.place (rounded x.size) a.0 (clear_above ys x.place (rounded x.size) (r.first + r.size) w.0.2 above),
-  apart_append r xs ys w.1 a.1 above b)
+  apart_append r xs ys w.1 a.1 above b,
+)
 
 row_more : (size u : ℕ) → range_first size (u + 1) ≡ range_first size u + size
 row_more size u = grind arith
@@ -73,9 +73,10 @@ all_apart size u (h ∷ hs) l =
     let here : Legal (range_at size u) h = subst (λ (t : ℕ). Legal (range_at size t) h) (omega arith) (l 0 (omega arith)) in
     let g = legal_good (range_at size u) h here in
     let rest = all_apart size (u + 1) hs (λ t lt. subst (λ (v : ℕ). Legal (range_at size v) (get_or hs t [])) (omega arith) (l (suc t) (omega (arith, lt)))) in
-    let step : range_first size (u + 1) ≡ range_first size u + size = row_more size u in
-    (above_append (range_first size u) (live_blocks h) (all_blocks hs) (within_above (range_at size u) (live_blocks h) g.0) (above_less (range_first size (u + 1)) (range_first size u) (all_blocks hs) (omega (arith, step)) rest.0),
-     apart_append (range_at size u) (live_blocks h) (all_blocks hs) g.0 g.1 (subst (λ (low : ℕ). AllAbove low (all_blocks hs)) step rest.0) rest.1)
+    let step : range_first size (u + 1) ≡ range_first size u + size = row_more size u in (
+      above_append (range_first size u) (live_blocks h) (all_blocks hs) (within_above (range_at size u) (live_blocks h) g.0) (above_less (range_first size (u + 1)) (range_first size u) (all_blocks hs) (omega (arith, step)) rest.0),
+      apart_append (range_at size u) (live_blocks h) (all_blocks hs) g.0 g.1 (subst (λ (low : ℕ). AllAbove low (all_blocks hs)) step rest.0) rest.1,
+    )
 
 -- what was ever granted lies in the range
 
@@ -108,14 +109,14 @@ pub stay_apart : (size : ℕ) (hs : List (List HeapCall)) → AllLegal size hs �
 stay_apart size hs l = record {
   blocks = (all_apart size 0 hs (λ t lt. subst (λ (u : ℕ). Legal (range_at size u) (get_or hs t [])) (omega arith) (l t lt))).1;
   halves = λ a i j.
-    let n = length hs in
-    let low : i.0 < n / 2 = ltb-true i.0 (n / 2) (lower_test (nat_lt i.0 (n / 2)) (nat_lt i.0 (2 * (n / 2))) i.1) in
-    let up = upper_test (nat_lt j.0 (n / 2)) (nat_lt j.0 (2 * (n / 2))) j.1 in
-    let from : n / 2 ≤ j.0 = ltb-false j.0 (n / 2) up.0 in
-    let to : j.0 < 2 * (n / 2) = ltb-true j.0 (2 * (n / 2)) up.1 in
-    one_range size i.0 j.0 a (omega (arith, low, from))
+      let n = length hs in
+      let low : i.0 < n / 2 = ltb-true i.0 (n / 2) (lower_test (nat_lt i.0 (n / 2)) (nat_lt i.0 (2 * (n / 2))) i.1) in
+      let up = upper_test (nat_lt j.0 (n / 2)) (nat_lt j.0 (2 * (n / 2))) j.1 in
+      let from : n / 2 ≤ j.0 = ltb-false j.0 (n / 2) up.0 in
+      let to : j.0 < 2 * (n / 2) = ltb-true j.0 (2 * (n / 2)) up.1 in
+      one_range size i.0 j.0 a (omega (arith, low, from))
       (granted_within (range_at size i.0) [] (get_or hs i.0 []) a (l i.0 (omega (arith, low))) i.2)
-      (granted_within (range_at size j.0) [] (get_or hs j.0 []) a (l j.0 (omega (arith, to))) j.2)
+      (granted_within (range_at size j.0) [] (get_or hs j.0 []) a (l j.0 (omega (arith, to))) j.2);
 }
 
 -- the range of a live block

@@ -1,8 +1,8 @@
 -- Blocks that stay clear of an interval.
-use Rattle.std.proofs.Common.{zero, suc, ◌≡◌, ◌≢◌, ◌⊎◌, ⊎_elim, inl, inr, ℕ, ◌+◌, ◌-◌, ◌*◌, ◌/◌, ◌%◌, ◌<◌, ◌≤◌, max, Bool, true, false, cond, nat_eq, List, [], ◌∷◌, ◌++◌, Option, Some, None, refl, sym, ap, ◌∙◌, subst, arith}
+use Rattle.std.proofs.Common.{zero, suc, ◌≡◌, ◌≢◌, ◌⊎◌, ⊎_elim, inl, inr, ℕ, ◌+◌, ◌*◌, ◌/◌, ◌%◌, ◌<◌, ◌≤◌, Bool, true, false, cond, nat_eq, List, [], ◌∷◌, Option, Some, None, refl, sym, ap, ◌∙◌, subst, arith}
 use Rattle.std.proofs.lemmas.Bool.Decides.{eqb_tells}
 use Rattle.std.specs.Prelude.{is_some}
-use Rattle.range_heap.specs.Blocks.{rounded, Block, block, without, size_in, IsClear, AllApart}
+use Rattle.range_heap.specs.Blocks.{rounded, Block, without, size_in, IsClear, AllApart}
 
 pub rounded_some : (s : ℕ) → 16 ≤ rounded s
 rounded_some s = omega arith
@@ -29,9 +29,10 @@ pub clear_joined : (bs : List Block) (at n m : ℕ) → IsClear bs at n → IsCl
 clear_joined [] at n m c d = tt
 clear_joined (b ∷ bs) at n m c d = (
   ⊎_elim
-    (λ (x : at + n ≤ b.place). ⊎_elim (λ (y : at + n + m ≤ b.place). inl (omega (arith, y))) (λ (y : b.place + rounded b.size ≤ at + n). absurd (omega (arith, x, y, rounded_some b.size))) d.0)
-    (λ (x : b.place + rounded b.size ≤ at). inr x) c.0,
-  clear_joined bs at n m c.1 d.1)
+      (λ (x : at + n ≤ b.place). ⊎_elim (λ (y : at + n + m ≤ b.place). inl (omega (arith, y))) (λ (y : b.place + rounded b.size ≤ at + n). absurd (omega (arith, x, y, rounded_some b.size))) d.0)
+      (λ (x : b.place + rounded b.size ≤ at). inr x) c.0,
+  clear_joined bs at n m c.1 d.1,
+)
 
 -- so units of 16 that are clear, one after another, make a clear interval
 pub clear_units : (bs : List Block) (at m : ℕ) → ((k : ℕ) → k < m + 1 → IsClear bs (at + 16 * k) 16) → IsClear bs at (16 * (m + 1))
@@ -56,11 +57,11 @@ pub clear_of : (bs : List Block) (at n p s : ℕ) → IsClear bs at n → size_i
 clear_of [] at n p s c e = none_some s e
 clear_of (b ∷ bs) at n p s c e = ⊎_elim
     (λ (q : (nat_eq b.place p ≡ true) × (b.place ≡ p)).
-      let f : Some b.size ≡ Some s = subst (λ (t : Bool). cond t (Some b.size) (size_in p bs) ≡ Some s) q.0 e in
-      let g : b.size ≡ s = some_same b.size s f in
-      subst (λ (x : ℕ). (at + n ≤ x) ⊎ (x + rounded s ≤ at)) q.1 (subst (λ (x : ℕ). (at + n ≤ b.place) ⊎ (b.place + rounded x ≤ at)) g c.0))
+    let f : Some b.size ≡ Some s = subst (λ (t : Bool). cond t (Some b.size) (size_in p bs) ≡ Some s) q.0 e in
+    let g : b.size ≡ s = some_same b.size s f in
+    subst (λ (x : ℕ). (at + n ≤ x) ⊎ (x + rounded s ≤ at)) q.1 (subst (λ (x : ℕ). (at + n ≤ b.place) ⊎ (b.place + rounded x ≤ at)) g c.0))
     (λ (q : (nat_eq b.place p ≡ false) × (b.place ≢ p)).
-      clear_of bs at n p s c.1 (subst (λ (t : Bool). cond t (Some b.size) (size_in p bs) ≡ Some s) q.0 e))
+    clear_of bs at n p s c.1 (subst (λ (t : Bool). cond t (Some b.size) (size_in p bs) ≡ Some s) q.0 e))
     (eqb_tells b.place p)
 
 -- the blocks without one of them
@@ -85,9 +86,9 @@ pub without_none : (bs : List Block) (p n : ℕ) → 0 < n → IsClear bs p n �
 without_none [] p n pos c = refl
 without_none (b ∷ bs) p n pos c = ⊎_elim
     (λ (q : (nat_eq b.place p ≡ true) × (b.place ≡ p)).
-      absurd (⊎_elim {C = ⊥} (λ (x : p + n ≤ b.place). omega (arith, x, pos, q.1)) (λ (x : b.place + rounded b.size ≤ p). omega (arith, x, q.1, rounded_some b.size)) c.0))
+    absurd (⊎_elim {C = ⊥} (λ (x : p + n ≤ b.place). omega (arith, x, pos, q.1)) (λ (x : b.place + rounded b.size ≤ p). omega (arith, x, q.1, rounded_some b.size)) c.0))
     (λ (q : (nat_eq b.place p ≡ false) × (b.place ≢ p)).
-      ap (λ (t : Bool). cond t (without p bs) (b ∷ without p bs)) q.0 ∙ ap (λ l. b ∷ l) (without_none bs p n pos c.1))
+    ap (λ (t : Bool). cond t (without p bs) (b ∷ without p bs)) q.0 ∙ ap (λ l. b ∷ l) (without_none bs p n pos c.1))
     (eqb_tells b.place p)
 
 -- what was a block is clear of all others
@@ -95,15 +96,15 @@ pub clear_after : (bs : List Block) (p s : ℕ) → AllApart bs → size_in p bs
 clear_after [] p s a e = none_some s e
 clear_after (b ∷ bs) p s a e = ⊎_elim
     (λ (q : (nat_eq b.place p ≡ true) × (b.place ≡ p)).
-      let f : Some b.size ≡ Some s = subst (λ (t : Bool). cond t (Some b.size) (size_in p bs) ≡ Some s) q.0 e in
-      let g : b.size ≡ s = some_same b.size s f in
-      subst (λ (t : Bool). IsClear (cond t (without p bs) (b ∷ without p bs)) p (rounded s)) (sym q.0)
-        (clear_without bs p p (rounded s) (subst (λ (x : ℕ). IsClear bs x (rounded s)) q.1 (subst (λ (x : ℕ). IsClear bs b.place (rounded x)) g a.0))))
+    let f : Some b.size ≡ Some s = subst (λ (t : Bool). cond t (Some b.size) (size_in p bs) ≡ Some s) q.0 e in
+    let g : b.size ≡ s = some_same b.size s f in
+    subst (λ (t : Bool). IsClear (cond t (without p bs) (b ∷ without p bs)) p (rounded s)) (sym q.0)
+    (clear_without bs p p (rounded s) (subst (λ (x : ℕ). IsClear bs x (rounded s)) q.1 (subst (λ (x : ℕ). IsClear bs b.place (rounded x)) g a.0))))
     (λ (q : (nat_eq b.place p ≡ false) × (b.place ≢ p)).
-      let f : size_in p bs ≡ Some s = subst (λ (t : Bool). cond t (Some b.size) (size_in p bs) ≡ Some s) q.0 e in
-      let apart : (b.place + rounded b.size ≤ p) ⊎ (p + rounded s ≤ b.place) = clear_of bs b.place (rounded b.size) p s a.0 f in
-      subst (λ (t : Bool). IsClear (cond t (without p bs) (b ∷ without p bs)) p (rounded s)) (sym q.0)
-        (⊎_elim (λ (x : b.place + rounded b.size ≤ p). inr x) (λ (x : p + rounded s ≤ b.place). inl x) apart, clear_after bs p s a.1 f))
+    let f : size_in p bs ≡ Some s = subst (λ (t : Bool). cond t (Some b.size) (size_in p bs) ≡ Some s) q.0 e in
+    let apart : (b.place + rounded b.size ≤ p) ⊎ (p + rounded s ≤ b.place) = clear_of bs b.place (rounded b.size) p s a.0 f in
+    subst (λ (t : Bool). IsClear (cond t (without p bs) (b ∷ without p bs)) p (rounded s)) (sym q.0)
+    (⊎_elim (λ (x : b.place + rounded b.size ≤ p). inr x) (λ (x : p + rounded s ≤ b.place). inl x) apart, clear_after bs p s a.1 f))
     (eqb_tells b.place p)
 
 -- what is clear of the others and of a block is clear of all
@@ -111,16 +112,17 @@ pub clear_again : (bs : List Block) (p s at n : ℕ) → AllApart bs → size_in
 clear_again [] p s at n a e o c = tt
 clear_again (b ∷ bs) p s at n a e o c = ⊎_elim
     (λ (q : (nat_eq b.place p ≡ true) × (b.place ≡ p)).
-      let f : Some b.size ≡ Some s = subst (λ (t : Bool). cond t (Some b.size) (size_in p bs) ≡ Some s) q.0 e in
-      let g : b.size ≡ s = some_same b.size s f in
-      let others : IsClear bs p (rounded s) = subst (λ (x : ℕ). IsClear bs x (rounded s)) q.1 (subst (λ (x : ℕ). IsClear bs b.place (rounded x)) g a.0) in
-      let rest : IsClear (without p bs) at n = subst (λ (t : Bool). IsClear (cond t (without p bs) (b ∷ without p bs)) at n) q.0 c in
-      (subst (λ (x : ℕ). (at + n ≤ x) ⊎ (x + rounded b.size ≤ at)) (sym q.1) (subst (λ (x : ℕ). (at + n ≤ p) ⊎ (p + rounded x ≤ at)) (sym g) o),
-       subst (λ l. IsClear l at n) (without_none bs p (rounded s) (omega (arith, rounded_some s)) others) rest))
+    let f : Some b.size ≡ Some s = subst (λ (t : Bool). cond t (Some b.size) (size_in p bs) ≡ Some s) q.0 e in
+    let g : b.size ≡ s = some_same b.size s f in
+    let others : IsClear bs p (rounded s) = subst (λ (x : ℕ). IsClear bs x (rounded s)) q.1 (subst (λ (x : ℕ). IsClear bs b.place (rounded x)) g a.0) in
+    let rest : IsClear (without p bs) at n = subst (λ (t : Bool). IsClear (cond t (without p bs) (b ∷ without p bs)) at n) q.0 c in (
+      subst (λ (x : ℕ). (at + n ≤ x) ⊎ (x + rounded b.size ≤ at)) (sym q.1) (subst (λ (x : ℕ). (at + n ≤ p) ⊎ (p + rounded x ≤ at)) (sym g) o),
+      subst (λ l. IsClear l at n) (without_none bs p (rounded s) (omega (arith, rounded_some s)) others) rest,
+    ))
     (λ (q : (nat_eq b.place p ≡ false) × (b.place ≢ p)).
-      let f : size_in p bs ≡ Some s = subst (λ (t : Bool). cond t (Some b.size) (size_in p bs) ≡ Some s) q.0 e in
-      let rest : IsClear (b ∷ without p bs) at n = subst (λ (t : Bool). IsClear (cond t (without p bs) (b ∷ without p bs)) at n) q.0 c in
-      (rest.0, clear_again bs p s at n a.1 f o rest.1))
+    let f : size_in p bs ≡ Some s = subst (λ (t : Bool). cond t (Some b.size) (size_in p bs) ≡ Some s) q.0 e in
+    let rest : IsClear (b ∷ without p bs) at n = subst (λ (t : Bool). IsClear (cond t (without p bs) (b ∷ without p bs)) at n) q.0 c in
+    (rest.0, clear_again bs p s at n a.1 f o rest.1))
     (eqb_tells b.place p)
 
 pub size_without : (bs : List Block) (p q : ℕ) → size_in q (without p bs) ≡ cond (nat_eq p q) None (size_in q bs)
@@ -131,18 +133,18 @@ size_without [] p q = go (nat_eq p q)
     go false = refl
 size_without (b ∷ bs) p q = ⊎_elim
     (λ (x : (nat_eq b.place p ≡ true) × (b.place ≡ p)).
-      ap (λ (t : Bool). size_in q (cond t (without p bs) (b ∷ without p bs))) x.0 ∙ size_without bs p q
-        ∙ subst (λ (z : ℕ). cond (nat_eq z q) None (size_in q bs) ≡ cond (nat_eq z q) None (cond (nat_eq b.place q) (Some b.size) (size_in q bs))) x.1 (go (nat_eq b.place q)))
+    ap (λ (t : Bool). size_in q (cond t (without p bs) (b ∷ without p bs))) x.0 ∙ size_without bs p q
+    ∙ subst (λ (z : ℕ). cond (nat_eq z q) None (size_in q bs) ≡ cond (nat_eq z q) None (cond (nat_eq b.place q) (Some b.size) (size_in q bs))) x.1 (go (nat_eq b.place q)))
     (λ (x : (nat_eq b.place p ≡ false) × (b.place ≢ p)).
-      ap (λ (t : Bool). size_in q (cond t (without p bs) (b ∷ without p bs))) x.0 ∙ ⊎_elim
-        (λ (y : (nat_eq b.place q ≡ true) × (b.place ≡ q)). ⊎_elim
-          (λ (z : (nat_eq p q ≡ true) × (p ≡ q)). absurd (x.1 (y.1 ∙ sym z.1)))
-          (λ (z : (nat_eq p q ≡ false) × (p ≢ q)).
-            ap (λ (t : Bool). cond t (Some b.size) (size_in q (without p bs))) y.0 ∙ sym (ap (λ (t : Bool). cond t None (cond (nat_eq b.place q) (Some b.size) (size_in q bs))) z.0 ∙ ap (λ (t : Bool). cond t (Some b.size) (size_in q bs)) y.0))
-          (eqb_tells p q))
-        (λ (y : (nat_eq b.place q ≡ false) × (b.place ≢ q)).
-          ap (λ (t : Bool). cond t (Some b.size) (size_in q (without p bs))) y.0 ∙ size_without bs p q ∙ sym (ap (λ (t : Bool). cond (nat_eq p q) None (cond t (Some b.size) (size_in q bs))) y.0))
-        (eqb_tells b.place q))
+    ap (λ (t : Bool). size_in q (cond t (without p bs) (b ∷ without p bs))) x.0 ∙ ⊎_elim
+    (λ (y : (nat_eq b.place q ≡ true) × (b.place ≡ q)). ⊎_elim
+    (λ (z : (nat_eq p q ≡ true) × (p ≡ q)). absurd (x.1 (y.1 ∙ sym z.1)))
+    (λ (z : (nat_eq p q ≡ false) × (p ≢ q)).
+    ap (λ (t : Bool). cond t (Some b.size) (size_in q (without p bs))) y.0 ∙ sym (ap (λ (t : Bool). cond t None (cond (nat_eq b.place q) (Some b.size) (size_in q bs))) z.0 ∙ ap (λ (t : Bool). cond t (Some b.size) (size_in q bs)) y.0))
+    (eqb_tells p q))
+    (λ (y : (nat_eq b.place q ≡ false) × (b.place ≢ q)).
+    ap (λ (t : Bool). cond t (Some b.size) (size_in q (without p bs))) y.0 ∙ size_without bs p q ∙ sym (ap (λ (t : Bool). cond (nat_eq p q) None (cond t (Some b.size) (size_in q bs))) y.0))
+    (eqb_tells b.place q))
     (eqb_tells b.place p)
   where
     go : (t : Bool) → cond t None (size_in q bs) ≡ cond t None (cond t (Some b.size) (size_in q bs))

@@ -1,14 +1,14 @@
 -- A history that is one entry longer, and what a legal history leaves live.
-use Rattle.std.proofs.Common.{◌≡◌, ◌≢◌, ◌⊎◌, ⊎_elim, inl, inr, ℕ, ◌+◌, ◌*◌, ◌%◌, ◌<◌, ◌≤◌, Bool, true, false, cond, nat_eq, List, [], ◌∷◌, ◌++◌, Option, Some, None, refl, sym, ap, ◌∙◌, subst, arith}
+use Rattle.std.proofs.Common.{◌≡◌, ◌≢◌, ⊎_elim, ℕ, ◌+◌, ◌%◌, ◌<◌, ◌≤◌, Bool, true, false, cond, nat_eq, List, [], ◌∷◌, ◌++◌, Option, Some, None, refl, sym, ap, ◌∙◌, subst, arith}
 use Rattle.std.proofs.lemmas.List.{append-nil, append_assoc}
 use Rattle.std.proofs.lemmas.Bool.Decides.{eqb_tells}
 use Rattle.std.specs.Prelude.{is_some}
 use Rattle.range_heap.specs.declared.call.HeapCall.{HeapCall}
 use Rattle.range_heap.specs.declared.call.HeapEvent.{HeapEvent}
 use Rattle.range_heap.specs.declared.call.HeapEvent.TheVariants.{Grant, Refuse, Release}
-use Rattle.range_heap.specs.Blocks.{rounded, Block, block, without, blocks_after, blocks_from, live_blocks, size_in, live_at, live, IsClear, AllApart}
-use Rattle.range_heap.specs.History.{Region, FitsAt, MayFollow, LegalFrom, Legal}
-use Rattle.range_heap.proofs.Clear.{clear_without, apart_without, size_without, rounded_some, none_some, some_same, clear_of}
+use Rattle.range_heap.specs.Blocks.{rounded, Block, without, blocks_after, blocks_from, live_blocks, size_in, live, IsClear, AllApart}
+use Rattle.range_heap.specs.History.{Region, MayFollow, LegalFrom, Legal}
+use Rattle.range_heap.proofs.Clear.{apart_without, size_without, rounded_some, none_some, some_same, clear_of}
 
 -- whether a block that begins at p is live after one more event, where b says whether it was
 abbrev pub live_after : ℕ → Bool → HeapEvent → Bool
@@ -85,7 +85,7 @@ good_from : (r : Region) (done h : List HeapCall) → LegalFrom r done h → Goo
 good_from r done [] l g = subst (λ (d : List HeapCall). Good r (live_blocks d)) (sym (append-nil done)) g
 good_from r done (e ∷ es) l g =
     subst (λ (d : List HeapCall). Good r (live_blocks d)) (append_assoc done (e ∷ []) es)
-      (good_from r (done ++ e ∷ []) es l.1 (subst (λ (bs : List Block). Good r bs) (sym (blocks_from-snoc [] done e)) (good_step r done e.what l.0 g)))
+    (good_from r (done ++ e ∷ []) es l.1 (subst (λ (bs : List Block). Good r bs) (sym (blocks_from-snoc [] done e)) (good_step r done e.what l.0 g)))
 
 pub legal_good : (r : Region) (h : List HeapCall) → Legal r h → Good r (live_blocks h)
 legal_good r h l = good_from r [] h l (tt, tt)
@@ -94,12 +94,12 @@ pub within_at : (r : Region) (bs : List Block) (p s : ℕ) → AllWithin r bs �
 within_at r [] p s a e = none_some s e
 within_at r (b ∷ bs) p s a e = ⊎_elim
     (λ (q : (nat_eq b.place p ≡ true) × (b.place ≡ p)).
-      let f : Some b.size ≡ Some s = subst (λ (t : Bool). cond t (Some b.size) (size_in p bs) ≡ Some s) q.0 e in
-      let g : b.size ≡ s = some_same b.size s f in
-      subst (λ (x : ℕ). (x % 16 ≡ 0) × (r.first ≤ x) × (x + rounded s ≤ r.first + r.size)) q.1
-        (subst (λ (x : ℕ). (b.place % 16 ≡ 0) × (r.first ≤ b.place) × (b.place + rounded x ≤ r.first + r.size)) g a.0))
+    let f : Some b.size ≡ Some s = subst (λ (t : Bool). cond t (Some b.size) (size_in p bs) ≡ Some s) q.0 e in
+    let g : b.size ≡ s = some_same b.size s f in
+    subst (λ (x : ℕ). (x % 16 ≡ 0) × (r.first ≤ x) × (x + rounded s ≤ r.first + r.size)) q.1
+    (subst (λ (x : ℕ). (b.place % 16 ≡ 0) × (r.first ≤ b.place) × (b.place + rounded x ≤ r.first + r.size)) g a.0))
     (λ (q : (nat_eq b.place p ≡ false) × (b.place ≢ p)).
-      within_at r bs p s a.1 (subst (λ (t : Bool). cond t (Some b.size) (size_in p bs) ≡ Some s) q.0 e))
+    within_at r bs p s a.1 (subst (λ (t : Bool). cond t (Some b.size) (size_in p bs) ≡ Some s) q.0 e))
     (eqb_tells b.place p)
 
 -- a place that is clear for some bytes is not live

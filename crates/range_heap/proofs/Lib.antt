@@ -3,3 +3,4 @@ pub mod Histories
 pub mod Keeping
 pub mod Apart
 pub mod Noting
+pub mod Slow

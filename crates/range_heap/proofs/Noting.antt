@@ -1,7 +1,7 @@
 -- What calls on the ranges note in their histories.
-use Rattle.std.proofs.Common.{◌≡◌, ◌≢◌, ◌⊎◌, ⊎_elim, inl, inr, ℕ, ◌+◌, ◌<◌, ◌≤◌, Bool, true, false, List, [], ◌∷◌, ◌++◌, length, get_or, set, map, take, Option, Some, None, is_some, refl, sym, ap, ◌∙◌, subst, arith}
-use Rattle.std.proofs.lemmas.Bool.{cases_lt, cases_order}
-use Rattle.std.proofs.lemmas.List.{get_or-map, map-set, length-map, set-get_or, length-set, take_more}
+use Rattle.std.proofs.Common.{◌≡◌, ⊎_elim, ℕ, ◌<◌, ◌≤◌, Bool, true, false, List, [], ◌∷◌, ◌++◌, length, get_or, set, map, Option, Some, None, is_some, refl, sym, ap, ◌∙◌, subst, arith}
+use Rattle.std.proofs.lemmas.Bool.{cases_lt}
+use Rattle.std.proofs.lemmas.List.{get_or-map, map-set, length-map, set-get_or, length-set}
 use Rattle.std.specs.Prelude.{Result, Ok, Err, OnErr}
 use Rattle.range_heap.specs.declared.call.HeapCall.{HeapCall}
 use Rattle.range_heap.specs.declared.call.HeapEvent.{HeapEvent}
@@ -34,12 +34,13 @@ set_history old new t after e = ap (λ l. map history_of l) e ∙ map-set histor
 pub reserved : (token : ℕ) (old new : AllHeaps) → (length old.heaps ≤ token → new ≡ old) → (token < length old.heaps → Changed token Roomier old new) → (histories new ≡ histories old) × (new.size ≡ old.size) × (length new.heaps ≡ length old.heaps)
 reserved token old new outside inside = ⊎_elim
     (λ (lt : token < length old.heaps).
-      let c = inside lt in
-      let w = c.way none_kept in
-      let same : c.after.history ≡ get_or (histories old) token [] = w.history ∙ sym (get_history old.heaps token none_kept lt) in
-      (set_history old new token c.after c.heaps ∙ ap (λ h. set (histories old) token h) same ∙ set-get_or (histories old) token [],
-       c.same_size,
-       ap (λ l. length l) c.heaps ∙ length-set old.heaps token c.after))
+    let c = inside lt in
+    let w = c.way none_kept in
+    let same : c.after.history ≡ get_or (histories old) token [] = w.history ∙ sym (get_history old.heaps token none_kept lt) in (
+      set_history old new token c.after c.heaps ∙ ap (λ h. set (histories old) token h) same ∙ set-get_or (histories old) token [],
+      c.same_size,
+      ap (λ l. length l) c.heaps ∙ length-set old.heaps token c.after,
+    ))
     (λ (le : length old.heaps ≤ token). let e = outside le in (ap histories e, ap (λ a. a.size) e, ap (λ a. length a.heaps) e))
     (cases_lt token (length old.heaps))
 
@@ -54,9 +55,10 @@ answer_of who token size (Some p) old new lt c =
 pub made_ask : (who token size : ℕ) (answer : Option ℕ) (old mid new : AllHeaps) → histories mid ≡ histories old → (length mid.heaps ≤ token → new ≡ mid) → (token < length mid.heaps → Changed token (Granted who size answer) mid new) → Made (Ask who token size) (histories old) (histories new)
 made_ask who token size answer old mid new same outside inside =
     let long = length-map mid.heaps history_of in
-    subst (λ hs. Made (Ask who token size) hs (histories new)) same
-      (λ le. ap histories (outside (omega (arith, le, long))),
-       λ lt. let within : token < length mid.heaps = omega (arith, lt, long) in answer_of who token size answer mid new within (inside within))
+    subst (λ hs. Made (Ask who token size) hs (histories new)) same (
+      λ le. ap histories (outside (omega (arith, le, long))),
+      λ lt. let within : token < length mid.heaps = omega (arith, lt, long) in answer_of who token size answer mid new within (inside within),
+    )
 
 -- a live block lies in its range
 pub live_inside : (size : ℕ) (hs : List (List HeapCall)) → AllLegal size hs → (place t : ℕ) → t < length hs → live place (get_or hs t []) ≡ true → InRange size t place
@@ -84,11 +86,12 @@ made_back who place size t old mid new same legal lt alive c =
     let within : t < length (histories mid) = omega (arith, lt, long) in
     let w = c.way none_kept in
     let here : histories new ≡ noted (histories mid) t (call_of who (Release place)) = set_history mid new t c.after c.heaps ∙ ap (λ h. set (histories mid) t h) (w.entry ∙ ap (λ h. h ++ call_of who (Release place) ∷ []) (sym (get_history mid.heaps t none_kept lt))) in
-    subst (λ hs. Made (GiveBack who place) hs (histories new)) same
-      (λ u l a.
-        let e : u ≡ t = same_range size t u place (live_inside size (histories mid) legal place t within alive) (live_inside size (histories mid) legal place u l a) in
-        here ∙ ap (λ v. noted (histories mid) v (call_of who (Release place))) (sym e),
-       λ none. true_not (live place (get_or (histories mid) t [])) alive (none t within))
+    subst (λ hs. Made (GiveBack who place) hs (histories new)) same (
+      λ u l a.
+          let e : u ≡ t = same_range size t u place (live_inside size (histories mid) legal place t within alive) (live_inside size (histories mid) legal place u l a) in
+          here ∙ ap (λ v. noted (histories mid) v (call_of who (Release place))) (sym e),
+      λ none. true_not (live place (get_or (histories mid) t [])) alive (none t within),
+    )
 
 -- no block is live at a place that lies in range t and begins none there
 pub none_else : (size : ℕ) (hs : List (List HeapCall)) → AllLegal size hs → (place t : ℕ) → InRange size t place → live_at place (get_or hs t []) ≡ None → (u : ℕ) → u < length hs → live place (get_or hs u []) ≡ true → ⊥
@@ -116,5 +119,5 @@ still_live place t old mid same long lt alive room =
     record {
       within = within;
       is_live = λ d. subst (λ h. live place h ≡ true) (ap (λ hs. get_or hs t []) (sym same) ∙ get_history mid.heaps t d within) alive;
-      room = room
+      room = room;
     }

@@ -1,5 +1,5 @@
 -- Live blocks, as a history of grants and releases leaves them.
-use Rattle.std.specs.Prelude.{◌≡◌, ◌⊎◌, ℕ, ◌+◌, ◌*◌, ◌/◌, ◌≤◌, max, Bool, cond, nat_eq, List, [], ◌∷◌, Option, Some, None, is_some}
+use Rattle.std.specs.Prelude.{◌⊎◌, ℕ, ◌+◌, ◌*◌, ◌/◌, ◌≤◌, max, Bool, cond, nat_eq, List, [], ◌∷◌, Option, Some, None, is_some}
 use Rattle.range_heap.specs.declared.call.HeapCall.{HeapCall}
 use Rattle.range_heap.specs.declared.call.HeapEvent.{HeapEvent}
 use Rattle.range_heap.specs.declared.call.HeapEvent.TheVariants.{Grant, Refuse, Release}

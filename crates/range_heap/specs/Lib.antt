@@ -5,3 +5,4 @@ pub mod Seen
 pub mod Ranges
 pub mod Steps
 pub mod Laws
+pub mod Plain

@@ -1,5 +1,5 @@
 -- What a call on one of the ranges changes.
-use Rattle.std.specs.Prelude.{map, ◌≡◌, ℕ, ◌+◌, ◌<◌, ◌≤◌, true, false, List, [], ◌∷◌, ◌++◌, length, slice_index_or, slice_set, Option, Result, IfSome, OnOk, MatchOption}
+use Rattle.std.specs.Prelude.{map, ◌≡◌, ℕ, ◌+◌, ◌<◌, ◌≤◌, true, false, List, [], ◌∷◌, ◌++◌, length, slice_index_or, slice_set, Option, IfSome, MatchOption}
 use Rattle.range_heap.specs.declared.call.HeapCall.{HeapCall}
 use Rattle.range_heap.specs.declared.call.HeapEvent.{HeapEvent}
 use Rattle.range_heap.specs.declared.call.HeapEvent.TheVariants.{Grant, Refuse, Release}

@@ -165,7 +165,7 @@ fn take_rounded(holes: &mut Holes, range: u32, size: u128) -> Option<u32>
 }
 
 /// The least positive multiple of 16 that is not below the size.
-fn round_up(size: u32) -> u32
+pub(crate) fn round_up(size: u32) -> u32
     requires { size ≤ 1048576 }
     ensures { result ≡ rounded size }
 {

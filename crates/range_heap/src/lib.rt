@@ -11,10 +11,14 @@ mod half;
 mod heap;
 mod laws;
 mod making;
+mod plain;
 mod ranges;
+#[cfg(test)]
+mod tests;
 
 pub use call::{HeapCall, HeapEvent, RangeCall};
 pub use half::Half;
 pub use heap::RangeHeap;
 pub use laws::{live_starts_differ, ranges_stay_apart, sizes_are_rounded_up};
+pub use plain::lowest_place;
 pub use ranges::Ranges;

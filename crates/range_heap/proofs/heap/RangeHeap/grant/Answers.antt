@@ -1,8 +1,6 @@
-use Rattle.std.proofs.Common.{◌≡◌, ℕ, ◌+◌, ◌*◌, false, Some, subst, sym, ap, ◌∙◌, arith}
+use Rattle.std.proofs.Common.{◌+◌, sym, ap, ◌∙◌, arith}
 use Rattle.range_heap.specs.Blocks.{rounded, live}
-use Rattle.range_heap.specs.History.{Legal, region}
 use Rattle.range_heap.specs.Seen.{Kept}
-use Rattle.range_heap.specs.Sound.{Sound}
 use Rattle.range_heap.proofs.Clear.{rounded_some}
 use Rattle.range_heap.proofs.Histories.{clear_not_live}
 use Rattle.range_heap.proofs.Keeping.{sound_refuse, sound_grant, fresh_place}
@@ -12,7 +10,7 @@ pub invariant_of-self : goal.invariant_of-self
 invariant_of-self c =
     let i = c.self.inside in
     rw (c.push_reserved.ensures.items, c.in_default.ensures.unchanged)
-      (sound_refuse i.first i.size i.holes i.sizes.items i.calls.items c.self.invariant c.args.who c.args.size c.in_default.ensures.none)
+    (sound_refuse i.first i.size i.holes i.sizes.items i.calls.items c.self.invariant c.args.who c.args.size c.in_default.ensures.none)
 
 pub returns-in_default-clause-legal : goal.returns-in_default-clause-legal
 returns-in_default-clause-legal c =

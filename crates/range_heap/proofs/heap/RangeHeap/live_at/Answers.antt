@@ -1,6 +1,6 @@
-use Rattle.std.proofs.Common.{◌≡◌, ◌⊎◌, ⊎_elim, ℕ, ◌+◌, ◌-◌, ◌*◌, ◌%◌, ◌<◌, ◌≤◌, None, Some, Option, List, Bool, subst, sym, ap, ◌∙◌, refl, arith}
+use Rattle.std.proofs.Common.{◌≡◌, ℕ, ◌+◌, ◌%◌, ◌<◌, ◌≤◌, None, Some, Option, List, Bool, sym, ap, ◌∙◌, refl, arith}
 use Rattle.range_heap.specs.declared.call.HeapCall.{HeapCall}
-use Rattle.range_heap.specs.Blocks.{rounded, live_at}
+use Rattle.range_heap.specs.Blocks.{live_at}
 use Rattle.range_heap.specs.Seen.{Kept}
 use Rattle.range_heap.specs.Sound.{Sound}
 use Rattle.range_heap.proofs.Clear.{rounded_some}
@@ -20,9 +20,9 @@ pub returns-then-place-self : goal.returns-then-place-self
 returns-then-place-self c =
     let i = c.self.inside in
     let none : None ≡ live_at c.args.place i.calls.items = none_at i.first i.size i.holes i.sizes.items i.calls.items c.self.invariant c.args.place
-      (λ low high multiple. elim c.then-place-self.branch [
-        then-place-self-via-then-place-self w ↦ omega (arith, low, w.if-place-self.true)
-        | then-place-self-via-else-place-self+then-place-self-2 w ↦ omega (arith, low, high, w.from.ensures, w.if-place-self-2.true)
-        | then-place-self-via-else-place-self+else-place-self-2+then-place-ne0 w ↦ omega (arith, multiple, w.if-place-ne0.true)
-      ]) in
+    (λ low high multiple. elim c.then-place-self.branch [
+      | then-place-self-via-then-place-self w ↦ omega (arith, low, w.if-place-self.true)
+      | then-place-self-via-else-place-self+then-place-self-2 w ↦ omega (arith, low, high, w.from.ensures, w.if-place-self-2.true)
+      | then-place-self-via-else-place-self+else-place-self-2+then-place-ne0 w ↦ omega (arith, multiple, w.if-place-ne0.true)
+    ]) in
     none ∙ ap (λ (v : Kept). live_at c.args.place v.history) c.self.view_is

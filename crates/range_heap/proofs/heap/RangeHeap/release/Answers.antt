@@ -1,4 +1,4 @@
-use Rattle.std.proofs.Common.{◌≡◌, ℕ, ◌+◌, ◌-◌, ◌*◌, ◌/◌, ◌%◌, ◌<◌, ◌≤◌, Bool, true, None, Some, Option, List, length, get_or, subst, sym, ap, ◌∙◌, refl, arith}
+use Rattle.std.proofs.Common.{◌≡◌, ℕ, ◌-◌, ◌/◌, Bool, true, None, Some, Option, List, get_or, subst, sym, ap, ◌∙◌, refl, arith}
 use Rattle.std.specs.Prelude.{IsSome}
 use Rattle.std.proofs.lemmas.List.{get_or_default}
 use Rattle.hole_list.specs.Units.{Marked}
@@ -6,7 +6,7 @@ use Rattle.range_heap.specs.declared.call.HeapCall.{HeapCall}
 use Rattle.range_heap.specs.Blocks.{rounded, live, live_at}
 use Rattle.range_heap.specs.Seen.{Kept}
 use Rattle.range_heap.specs.Sound.{Sound}
-use Rattle.range_heap.proofs.Clear.{rounded_some, rounded_not_below, rounded_multiple, some_of, some_same}
+use Rattle.range_heap.proofs.Clear.{rounded_some, rounded_not_below, some_of, some_same}
 use Rattle.range_heap.proofs.Keeping.{block_within, block_taken, sound_release, in_table, entry_is}
 use Rattle.range_heap.proofs.heap.RangeHeap.release.Goals as goal
 

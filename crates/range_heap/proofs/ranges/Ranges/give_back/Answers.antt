@@ -1,9 +1,9 @@
-use Rattle.std.proofs.Common.{◌≡◌, ℕ, ◌<◌, ◌≤◌, true, [], length, get_or, None, is_some, not, map, sym, subst, ap, ◌∙◌, arith}
+use Rattle.std.proofs.Common.{◌≡◌, ◌<◌, true, [], length, get_or, None, is_some, not, sym, subst, ap, ◌∙◌, arith}
 use Rattle.std.proofs.lemmas.List.{length-map}
 use Rattle.range_heap.specs.Blocks.{live, live_at}
 use Rattle.range_heap.specs.Seen.{Kept}
 use Rattle.range_heap.specs.Ranges.{AllLegal}
-use Rattle.range_heap.specs.Steps.{histories, Made, HasLive}
+use Rattle.range_heap.specs.Steps.{histories}
 use Rattle.range_heap.proofs.Noting.{history_of, get_history, reserved, made_nothing, made_back, live_inside, none_else, on_err, none_from, still_live}
 use Rattle.range_heap.proofs.ranges.Ranges.give_back.Goals as goal
 
@@ -11,7 +11,7 @@ pub returns-in_default-clause-made : goal.returns-in_default-clause-made
 returns-in_default-clause-made c =
     let all = c.args.self.now in
     made_nothing c.args.who c.args.place all.size (histories all)
-      (λ t lt alive. let long = length-map all.heaps history_of in c.in_default.ensures.outside t (omega (arith, lt, long)) (live_inside all.size (histories all) c.stands.ensures.legal c.args.place t lt alive))
+    (λ t lt alive. let long = length-map all.heaps history_of in c.in_default.ensures.outside t (omega (arith, lt, long)) (live_inside all.size (histories all) c.stands.ensures.legal c.args.place t lt alive))
 
 pub returns-then-is_none-clause-made : goal.returns-then-is_none-clause-made
 returns-then-is_none-clause-made c =
@@ -49,5 +49,5 @@ returns-clause-made c =
     let changed = c.release.ensures c.in-Some.token (still_live c.args.place c.in-Some.token all mid r.0 r.2 inside.0 alive room) in
     let lt : c.in-Some.token < length mid.heaps = omega (arith, inside.0, r.2) in
     made_back c.args.who c.args.place all.size c.in-Some.token all mid c.release.new.self r.0
-      (subst (λ hs. AllLegal all.size hs) (sym r.0) c.stands.ensures.legal) lt
-      (subst (λ hs. live c.args.place (get_or hs c.in-Some.token []) ≡ true) (sym r.0) alive) changed
+    (subst (λ hs. AllLegal all.size hs) (sym r.0) c.stands.ensures.legal) lt
+    (subst (λ hs. live c.args.place (get_or hs c.in-Some.token []) ≡ true) (sym r.0) alive) changed

@@ -1,4 +1,4 @@
-use Rattle.std.proofs.Common.{◌≡◌, sym, subst}
+use Rattle.std.proofs.Common.{sym, subst}
 use Rattle.range_heap.specs.Steps.{histories, Made}
 use Rattle.range_heap.proofs.Noting.{reserved, made_ask, on_err}
 use Rattle.range_heap.proofs.ranges.Ranges.make.Goals as goal
@@ -11,4 +11,4 @@ pub returns-in_ok-reserve-in-Ask-clause-made : goal.returns-in_ok-reserve-in-Ask
 returns-in_ok-reserve-in-Ask-clause-made c =
     let same = (reserved c.in-Ask.token c.args.self.now c.reserve.new.self (λ le. (c.reserve.ensures.outside le).1) c.reserve.ensures.inside).0 in
     subst (λ call. Made call (histories c.args.self.now) (histories c.grant.new.self)) (sym c.in-Ask.is)
-      (made_ask c.in-Ask.who c.in-Ask.token c.in-Ask.size c.grant.result c.args.self.now c.reserve.new.self c.grant.new.self same (λ le. (c.grant.ensures.outside le).1) c.grant.ensures.inside)
+    (made_ask c.in-Ask.who c.in-Ask.token c.in-Ask.size c.grant.result c.args.self.now c.reserve.new.self c.grant.new.self same (λ le. (c.grant.ensures.outside le).1) c.grant.ensures.inside)

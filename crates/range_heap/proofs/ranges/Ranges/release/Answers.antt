@@ -1,4 +1,4 @@
-use Rattle.std.proofs.Common.{◌≡◌, ℕ, ◌+◌, ◌-◌, ◌/◌, ◌<◌, ◌≤◌, true, List, length, get_or, set, subst, sym, ap, ◌∙◌, refl, arith}
+use Rattle.std.proofs.Common.{◌≡◌, ℕ, ◌-◌, ◌/◌, ◌<◌, ◌≤◌, true, List, get_or, set, subst, sym, ap, ◌∙◌, refl, arith}
 use Rattle.std.proofs.lemmas.List.{get_or_default}
 use Rattle.range_heap.specs.Blocks.{live}
 use Rattle.range_heap.specs.Seen.{Kept, AllHeaps, all_heaps}
@@ -48,11 +48,11 @@ returns c t l =
     let made : Released c.args.who c.args.place c.index_mut-heap.result.now after = record { first = c.release.ensures.first; same_size = c.release.ensures.size; room = c.release.ensures.room; entry = c.release.ensures.entry } in
     let set_at : set i.heaps.items ((c.args.place - 16777216) / c.from-size.result) after ≡ set i.heaps.items t after = ap (λ j. set i.heaps.items j after) f.1 in
     let changed : Changed t (Released c.args.who c.args.place) (all_heaps i.size i.heaps.items) (all_heaps i.size (set i.heaps.items ((c.args.place - 16777216) / c.from-size.result) after)) =
-      record {
-        after = after;
-        same_size = refl;
-        heaps = set_at;
-        way = λ d. subst (λ (k : Kept). Released c.args.who c.args.place k after)
-          (c.index_mut-heap.ensures.value ∙ ap (λ j. get_or i.heaps.items j c.index_mut-heap.result.now) f.1 ∙ get_or_default i.heaps.items t c.index_mut-heap.result.now d f.2.within) made
-      } in
+    record {
+      after = after;
+      same_size = refl;
+      heaps = set_at;
+      way = λ d. subst (λ (k : Kept). Released c.args.who c.args.place k after)
+          (c.index_mut-heap.ensures.value ∙ ap (λ j. get_or i.heaps.items j c.index_mut-heap.result.now) f.1 ∙ get_or_default i.heaps.items t c.index_mut-heap.result.now d f.2.within) made;
+    } in
     subst (λ old. Changed t (Released c.args.who c.args.place) old (all_heaps i.size (set i.heaps.items ((c.args.place - 16777216) / c.from-size.result) after))) c.self.view_is changed
