@@ -1,0 +1,5 @@
+pub mod Arithmetic
+pub mod Conversions
+pub mod Kinds
+pub mod Numbers
+pub mod Rows
