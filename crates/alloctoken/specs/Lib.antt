@@ -1,0 +1,15 @@
+pub mod Draft
+pub mod Entries
+pub mod Examples
+pub mod Line
+pub mod OptionExamples
+pub mod Options
+pub mod Plans
+pub mod Say
+pub mod Scan
+pub mod Sites
+pub mod TagLaws
+pub mod Tagged
+pub mod Uses
+pub mod Words
+pub mod Written

@@ -1,0 +1,20 @@
+//! What a core program means: the runs of the language. `specs/Meaning.antt` gives each form its meaning
+//! by structure, `run_of` the run of a program as a tree of what it asks the heap for, and `meaning` the
+//! output, the end and the requests for a list of answers. `specs/Log.antt` says which logs of the heap are
+//! logs of a run, over the legal histories of `range_heap`. The functions here are laws of these
+//! definitions, and worked examples by computation.
+#![tactic(auto)]
+
+mod examples;
+mod laws;
+mod log;
+mod operands;
+#[cfg(test)]
+mod tests;
+
+pub use examples::{
+    allocation_examples, call_examples, end_examples, trap_examples, well_formed_examples,
+};
+pub use laws::{answer_law, depth_law, one_run};
+pub use log::{Flow, LogEntry};
+pub use operands::{is_null, number_in, pointer_in};

@@ -1,0 +1,4 @@
+pub mod Growing
+pub mod Knowing
+pub mod Laying
+pub mod Sounding

@@ -1,0 +1,9 @@
+pub mod CTypes
+pub mod Canonical
+pub mod Facts
+pub mod Layout
+pub mod Pointers
+pub mod Rows
+pub mod Sound
+pub mod Spelling
+pub mod Table
