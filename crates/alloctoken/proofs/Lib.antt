@@ -11,3 +11,6 @@ pub mod Texts
 pub mod Using
 pub mod Worked
 pub mod Writing
+pub mod Courses
+pub mod Readings
+pub mod Served

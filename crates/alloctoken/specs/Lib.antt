@@ -13,3 +13,5 @@ pub mod Tagged
 pub mod Uses
 pub mod Words
 pub mod Written
+pub mod Course
+pub mod Reading

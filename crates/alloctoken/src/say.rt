@@ -66,13 +66,13 @@ fn plain_call(line: &mut Line, f: &[u8], xs: &Items<Expr>) -> Result<(), AllocEr
 }
 
 /// Writes a site: a call of the entry point, with the token behind the arguments.
-fn site_call(line: &mut Line, site: Callee, xs: &Items<Expr>, k: u32) -> Result<(), AllocError>
-    ensures { OnOk result ((f : List ℕ) → Says line.old line.new (say.say_call f (bare_exprs (exprs_of xs.now)) (Some (callee_seen site)) k)) }
+fn site_call(line: &mut Line, site: Callee, args: &Items<Expr>, k: u32) -> Result<(), AllocError>
+    ensures { OnOk result ((f : List ℕ) → Says line.old line.new (say.say_call f (bare_exprs (exprs_of args.now)) (Some (callee_seen site)) k)) }
 {
     line.name(site.entry_point())?;
     line.mark(Mark::LeftParen)?;
-    operands(line, xs)?;
-    token(line, xs, k)?;
+    operands(line, args)?;
+    token(line, args, k)?;
     line.mark(Mark::RightParen)
 }
 

@@ -5,6 +5,8 @@ pub mod Erased
 pub mod Marked
 pub mod Symbols
 pub mod Whole
+pub mod Parts
+pub mod Told
 pub mod Examples
 pub mod Runs
 pub mod Law

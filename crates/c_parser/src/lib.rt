@@ -1,9 +1,20 @@
-//! The grammar that is read so far (`IsSmall`, specs/Small.antt), a part of C's, and the machine that reads it
-//! token by token with a stack of what is open (specs/Machine.antt; with the places and numbers of nodes
-//! specs/Reader.antt). The laws: every small unit is a well-formed unit of C (`small_law`), its tokens tell it
-//! (`unique_law`), and the machine gives the unit that the tokens spell (`reader_law`).
+//! The tree from tokens: `parse` gives the unit of the grammar that the tokens spell, each node with its
+//! place and its number, or says that they spell none. The grammar is `IsSmall` (specs/Small.antt), a part
+//! of C's, and the tokens of a tree are c_tree's `spelled`. Inside, a machine with a stack of what is open
+//! takes one step for each token; no contract of a public call names it.
 #![tactic(auto)]
 
+mod declarator;
+mod expression;
+mod inside;
+mod make;
 mod promises;
+mod reader;
+mod statement;
+mod step;
+mod symbol;
+#[cfg(test)]
+mod tests;
 
 pub use promises::{reader_law, small_law, some_examples, unique_law};
+pub use reader::{ParseEnd, parse};

@@ -9,7 +9,7 @@ use Rattle.alloctoken.proofs.say.site_call.Goals as goal
 
 pub returns : goal.returns
 returns c =
-    let xs = bare_exprs (exprs_of c.args.xs.now) in
+    let xs = bare_exprs (exprs_of c.args.args.now) in
     map_ok c.mark-2.result
     (λ h f rest.
     let r1 = mark RParen ∷ rest in

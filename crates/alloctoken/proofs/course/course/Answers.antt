@@ -1,0 +1,22 @@
+use Rattle.std.proofs.Common.{refl, sym, ◌∙◌}
+use Rattle.alloctoken.proofs.Ranges.{options_in_range}
+use Rattle.alloctoken.proofs.Served.{served}
+use Rattle.alloctoken.specs.Course as c_
+use Rattle.alloctoken.proofs.course.course.Goals as goal
+
+pub rewritten-requires-clause-least : goal.rewritten-requires-clause-least
+rewritten-requires-clause-least g c = (options_in_range c.args.words.now c.in-Ok-Some.options (sym c.in-Ok-Some.ensures.value ∙ c.in-Ok-Some.field-0-is)).0
+
+pub rewritten-requires-clause-greatest : goal.rewritten-requires-clause-greatest
+rewritten-requires-clause-greatest g c = (options_in_range c.args.words.now c.in-Ok-Some.options (sym c.in-Ok-Some.ensures.value ∙ c.in-Ok-Some.field-0-is)).1
+
+pub returns-in-Ok-Some : goal.returns-in-Ok-Some
+returns-in-Ok-Some g c =
+    served c.args.words.now (g.F.Files.contents c.args.files.now) (g.F.Files.tally c.args.files.now) (g.F.Files.tally c.rewritten.new.files)
+    c.in-Ok-Some.options c.rewritten.result (sym c.in-Ok-Some.ensures.value ∙ c.in-Ok-Some.field-0-is) c.rewritten.ensures
+
+pub returns-in-Ok-None : goal.returns-in-Ok-None
+returns-in-Ok-None g c = c_.usage (sym c.in-Ok-None.ensures.value ∙ c.in-Ok-None.field-0-is) refl
+
+pub returns-in-Err : goal.returns-in-Err
+returns-in-Err g c = c_.no_memory refl

@@ -1,0 +1,111 @@
+//! The whole program over the objects that it is handed.
+
+ghost use Rattle.std.specs.Prelude.{◌≡◌, ◌≢◌, ◌⊎◌, ℕ, List, Some, None, IfSome};
+ghost use Rattle.std.specs.Io.KnownBytes.{Appends};
+ghost use Rattle.tok_base.specs.Fault.{Rose};
+ghost use Rattle.tok_base.specs.Files.{Contents};
+ghost use Rattle.alloctoken.specs.declared.options.Options.{Options};
+ghost use Rattle.alloctoken.specs.Options as options;
+ghost use Rattle.alloctoken.specs.Course.{Runs, Writes, IsDue, IsTooLong, ReadsNone, ReadsBack, change, line_of};
+ghost use Rattle.alloctoken.specs.Reading.{status_of};
+
+use crate::course::{Refusal, course};
+use std::alloc::Global;
+use tok_base::{Bytes, Files, Items, Sink, Status, write_whole};
+
+/// The line of a refusal.
+fn line(refusal: Refusal) -> &'static [u8]
+    ensures { result.now ≡ line_of (status_of refusal) }
+{
+    match refusal {
+        Refusal::Usage => b"usage: alloctoken rewrite|tokens|exec|run|sample [options] FILE\n",
+        Refusal::FileFault => b"file fault\n",
+        Refusal::NotBuilt => b"not built\n",
+        Refusal::NoMemory => b"no memory\n",
+    }
+}
+
+fn status(refusal: Refusal) -> Status
+    ensures { result ≡ status_of refusal }
+{
+    match refusal {
+        Refusal::Usage => Status::Usage,
+        Refusal::FileFault => Status::FileFault,
+        Refusal::NotBuilt => Status::NotBuilt,
+        Refusal::NoMemory => Status::NoMemory,
+    }
+}
+
+/// Writes on a sink; the status is `good` where all was written.
+fn write_on<S: Sink>(sink: &mut S, bytes: &[u8], good: Status) -> Status
+    ensures { Writes result good (change (S.written sink.old) (S.faults sink.old) (S.written sink.new) (S.faults sink.new)) bytes.now }
+{
+    match write_whole(sink, bytes) {
+        Ok(()) => good,
+        Err(_) => Status::WriteFault,
+    }
+}
+
+/// Takes the course that the words and the files come to.
+fn run<F: Files, O: Sink, E: Sink>(
+    alloc: Global,
+    words: &Items<Bytes>,
+    files: &mut F,
+    out: &mut O,
+    report: &mut E,
+) -> Status
+    ensures { Runs words.now (F.contents files.old) (F.tally files.old) (F.tally files.new) result
+        (change (O.written out.old) (O.faults out.old) (O.written out.new) (O.faults out.new))
+        (change (E.written report.old) (E.faults report.old) (E.written report.new) (E.faults report.new)) }
+{
+    match course(alloc, words, files) {
+        Ok(text) => write_on(out, text.as_slice(), Status::Done),
+        Err(refusal) => write_on(report, line(refusal), status(refusal)),
+    }
+}
+
+/// The program: `words` are those of the command line without the program's name, as bytes. It rewrites the
+/// file that they name, writes the text on `out`, or a refusal's line on `report`, and says how it ended.
+/// Want of memory may be answered at any time; nothing was written on `out` then.
+pub fn alloctoken_main<F: Files, O: Sink, E: Sink>(
+    alloc: Global,
+    words: &Items<Bytes>,
+    files: &mut F,
+    out: &mut O,
+    report: &mut E,
+) -> Status
+    // All of it: the course that the words and the files come to, and how far it got.
+    ensures runs { Runs words.now (F.contents files.old) (F.tally files.old) (F.tally files.new) result
+        (change (O.written out.old) (O.faults out.old) (O.written out.new) (O.faults out.new))
+        (change (E.written report.old) (E.faults report.old) (E.written report.new) (E.faults report.new)) }
+
+    // Where nothing fails, the due status is answered and the due bytes are written.
+    ensures due { (all : Contents) → F.contents files.old ≡ Some all → (Rose (F.tally files.old).faults (F.tally files.new).faults → ⊥)
+        → (Rose (O.faults out.old) (O.faults out.new) → ⊥) → (Rose (E.faults report.old) (E.faults report.new) → ⊥)
+        → result ≢ Status.NoMemory → IsDue words.now all result
+        (change (O.written out.old) (O.faults out.old) (O.written out.new) (O.faults out.new))
+        (change (E.written report.old) (E.faults report.old) (E.written report.new) (E.faults report.new)) }
+
+    // Where the text was written, it reads as the unit with its sites tagged.
+    ensures reads_back { result ≡ Status.Done → ReadsBack words.now (F.contents files.old)
+        (change (O.written out.old) (O.faults out.old) (O.written out.new) (O.faults out.new)) }
+
+    // Each refusal has its cause.
+    ensures usage { result ≡ Status.Usage → options.options_of words.now ≡ None }
+    ensures usage_only { options.options_of words.now ≡ None → (result ≡ Status.Usage) ⊎ ((result ≡ Status.WriteFault) ⊎ (result ≡ Status.NoMemory)) }
+    ensures file_fault { result ≡ Status.FileFault → (o : Options) × (options.options_of words.now ≡ Some o)
+        × Rose (F.tally files.old).faults (F.tally files.new).faults × ((F.tally files.new).failed ≡ Some o.file) }
+    ensures not_built { result ≡ Status.NotBuilt → (o : Options) × (options.options_of words.now ≡ Some o)
+        × IfSome (F.contents files.old) (λ all. IsTooLong all o.file ⊎ ((text : List ℕ) × (all o.file ≡ Some text) × ReadsNone text)) }
+    ensures write_fault { result ≡ Status.WriteFault → Rose (O.faults out.old) (O.faults out.new) ⊎ Rose (E.faults report.old) (E.faults report.new) }
+
+    // After a refusal, report holds its line and no more, and nothing was written on out.
+    ensures refused { result ≢ Status.Done → result ≢ Status.WriteFault →
+        Appends (E.written report.old) (E.written report.new) (line_of result) × (O.written out.new ≡ O.written out.old) }
+
+    // No fault is passed over.
+    ensures files_kept { result ≢ Status.FileFault → result ≢ Status.WriteFault → F.tally files.new ≡ F.tally files.old }
+    ensures sinks_kept { result ≢ Status.WriteFault → (O.faults out.new ≡ O.faults out.old) × (E.faults report.new ≡ E.faults report.old) }
+{
+    run(alloc, words, files, out, report)
+}
