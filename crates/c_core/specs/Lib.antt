@@ -4,4 +4,8 @@ pub mod Values
 pub mod Blocks
 pub mod Rows
 pub mod Forms
+pub mod Library
+pub mod Signatures
+pub mod SignatureRows
+pub mod Sorts
 pub mod WellFormed

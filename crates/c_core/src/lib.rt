@@ -11,7 +11,7 @@ mod tests;
 mod tree;
 mod values;
 
-pub use rows::{each_form_is_seen, some_examples};
+pub use rows::{each_form_is_seen, signature_examples, some_examples};
 pub use tree::{Core, Expr, FixedObject, Form, Func, LibMark, ModifyOp, Place, Stmt};
 pub use values::{
     BlockKind, Cell, End, Fault, Pointer, Reason, Scalar, Value, kind_of, reason_of, size_of,

@@ -1,6 +1,7 @@
 //! Laws of the definitions, and worked rows by computation: empty functions whose contracts state them.
 
 ghost use Rattle.c_core.specs.Forms.{ExpressionsAreSeen, StatementsAreSeen};
+ghost use Rattle.c_core.specs.SignatureRows.{SignatureRows};
 ghost use Rattle.c_core.specs.Rows.{CopyRows, KillRows, LoadRows, ValueRows};
 
 /// Each form in memory is seen as the form of the plain tree with its name and parts.
@@ -15,4 +16,9 @@ pub fn some_examples()
     ensures loads { LoadRows }
     ensures copies { CopyRows }
     ensures kills { KillRows }
+{}
+
+/// What functions take and give, by the spelling of their types.
+pub fn signature_examples()
+    ensures { SignatureRows }
 {}

@@ -5,11 +5,10 @@ use Rattle.c_core.specs.declared.values.End.{End}
 use Rattle.c_core.specs.declared.values.End.TheVariants.{Exit, Trap, Spent}
 use Rattle.c_core.specs.declared.tree.LibMark.TheVariants as mark
 use Rattle.c_core.specs.Tree.{Program}
-use Rattle.c_core.specs.WellFormed.{well_formed}
 use Rattle.c_meaning.specs.Run.{Request, Alloc, Free, Site, Token, Result}
-use Rattle.c_meaning.specs.Library.{callee_of}
+use Rattle.c_core.specs.Library.{callee_of}
 use Rattle.c_meaning.specs.Meaning.{Tokens, meaning}
-use Rattle.c_meaning.specs.Programs.{span, read_of_new_block, read_of_dead_block, third_is_refused, refused_realloc, three_turns, overflow, echo, calls_sum, sum_type, calls_itself, torn, overlapping, writes_text}
+use Rattle.c_meaning.specs.Programs.{span, read_of_new_block, read_of_dead_block, third_is_refused, refused_realloc, three_turns, overflow, echo, calls_sum, sum_type, other_type, calls_itself, torn, overlapping, writes_text}
 
 abbrev tokens : Tokens
 tokens = record { site = λ k. k; mark = λ k. k; fallback = 0 }
@@ -55,22 +54,10 @@ CallExamples =
     (runs (calls_sum sum_type) [] [] 1000 ≡ ends (Exit (pos 7)))
     × (runs (calls_sum sum_type) [] [] 6 ≡ ends (Exit (pos 7)))
     × (runs (calls_sum sum_type) [] [] 5 ≡ ends Spent)
-    × (runs (calls_sum (codes "int ( void )")) [] [] 1000 ≡ ends (Trap reason.BadCall (span 60)))
+    × (runs (calls_sum other_type) [] [] 1000 ≡ ends (Trap reason.BadCall (span 60)))
     × (callee_of (codes "free") ≡ Some (3, mark.Untagged))
     × (callee_of (codes "__alloc_token_malloc") ≡ Some (0, mark.Given))
     × (callee_of (codes "__alloc_token_17_realloc") ≡ Some (2, mark.Fixed 17))
     × (callee_of (codes "__alloc_token_07_malloc") ≡ None)
     × (callee_of (codes "__alloc_token_65536_malloc") ≡ None)
     × (callee_of (codes "__alloc_token_free") ≡ None)
-
--- every number names a thing that is there; a program without `main`, and a text that isn't there, are not well formed
-abbrev pub WellFormedExamples : Type 0
-WellFormedExamples =
-    (well_formed read_of_new_block ≡ true)
-    × (well_formed refused_realloc ≡ true)
-    × (well_formed three_turns ≡ true)
-    × (well_formed (calls_sum sum_type) ≡ true)
-    × (well_formed torn ≡ true)
-    × (well_formed (record torn { fixed = [] }) ≡ false)
-    × (well_formed (record echo { main = None }) ≡ false)
-    × (well_formed (record (calls_sum sum_type) { funcs = [] }) ≡ false)

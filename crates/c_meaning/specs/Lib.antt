@@ -1,10 +1,10 @@
 pub mod Run
 pub mod World
 pub mod Rules
-pub mod Library
 pub mod Storage
 pub mod Meaning
 pub mod Programs
 pub mod Examples
+pub mod Formed
 pub mod Log
 pub mod Laws

@@ -70,7 +70,7 @@ abbrev pub return : Expr → Stmt
 return e = Return (TheExpr e)
 
 abbrev pub main_of : Stmt → Function
-main_of body = record { name = codes "main"; ty = codes "int ( void )"; params = []; body = Some body }
+main_of body = record { name = codes "main"; ty = codes "int (void)"; params = []; body = Some body }
 
 -- a program of `main` alone
 abbrev pub program : Stmt → Program
@@ -155,7 +155,11 @@ echo =
     (one_stmt (return (number 0)) no_stmts)))
 
 abbrev pub sum_type : List ℕ
-sum_type = codes "int ( int , int )"
+sum_type = codes "int (int, int)"
+
+-- the type of another function: an enumeration in place of an `int`
+abbrev pub other_type : List ℕ
+other_type = codes "int (int, color)"
 
 -- int sum(int a, int b) { return a + b; }
 abbrev pub sum : Function
@@ -177,8 +181,8 @@ calls_sum type = record {
 -- int f(void) { return f(); } int main(void) { return f(); }
 abbrev pub calls_itself : Program
 calls_itself = record {
-  funcs = main_of (return (At (span 0) (Call (At (span 0) (Func 1)) (codes "int ( void )") no_exprs true)))
-      ∷ record { name = codes "f"; ty = codes "int ( void )"; params = []; body = Some (return (At (span 0) (Call (At (span 0) (Func 1)) (codes "int ( void )") no_exprs true))) } ∷ [];
+  funcs = main_of (return (At (span 0) (Call (At (span 0) (Func 1)) (codes "int (void)") no_exprs true)))
+      ∷ record { name = codes "f"; ty = codes "int (void)"; params = []; body = Some (return (At (span 0) (Call (At (span 0) (Func 1)) (codes "int (void)") no_exprs true))) } ∷ [];
   fixed = [];
   main = Some 0;
 }

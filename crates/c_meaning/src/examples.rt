@@ -1,6 +1,7 @@
 //! Worked examples, by computation.
 
-ghost use Rattle.c_meaning.specs.Examples.{AllocationExamples, CallExamples, EndExamples, TrapExamples, WellFormedExamples};
+ghost use Rattle.c_meaning.specs.Examples.{AllocationExamples, CallExamples, EndExamples, TrapExamples};
+ghost use Rattle.c_meaning.specs.Formed.{CallSortExamples, NameExamples, OperandExamples, StatementExamples, ValueExamples, WorkedExamplesAreFormed};
 
 /// Runs that ask for storage.
 pub fn allocation_examples()
@@ -22,7 +23,16 @@ pub fn call_examples()
     ensures { CallExamples }
 {}
 
-/// Programs that are well formed, and some that are not.
+/// The programs of the other examples are well formed.
 pub fn well_formed_examples()
-    ensures { WellFormedExamples }
+    ensures { WorkedExamplesAreFormed }
+{}
+
+/// Programs that are well formed, each beside some that differ from it in one part and are not.
+pub fn sort_examples()
+    ensures operands { OperandExamples }
+    ensures values { ValueExamples }
+    ensures calls { CallSortExamples }
+    ensures statements { StatementExamples }
+    ensures names { NameExamples }
 {}

@@ -13,7 +13,8 @@ mod operands;
 mod tests;
 
 pub use examples::{
-    allocation_examples, call_examples, end_examples, trap_examples, well_formed_examples,
+    allocation_examples, call_examples, end_examples, sort_examples, trap_examples,
+    well_formed_examples,
 };
 pub use laws::{answer_law, depth_law, one_run};
 pub use log::{Flow, LogEntry};

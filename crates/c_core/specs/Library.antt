@@ -1,5 +1,5 @@
 -- The library functions and the allocator's entry points, by their names.
-use Rattle.std.specs.Prelude.{ℕ, ◌+◌, ◌-◌, ◌*◌, Bool, ◌&&◌, ◌==◌, if◌then◌else◌, nat_lt, nat_le, List, [], ◌∷◌, drop, take, length, Option, Some, None, codes, bytes_eq}
+use Rattle.std.specs.Prelude.{ℕ, ◌+◌, ◌-◌, ◌*◌, Bool, ◌&&◌, ◌==◌, if◌then◌else◌, nat_lt, nat_le, List, [], ◌∷◌, drop, take, length, Option, Some, None, slice_get, codes, bytes_eq}
 use Rattle.c_core.specs.declared.tree.LibMark.{LibMark}
 use Rattle.c_core.specs.declared.tree.LibMark.TheVariants as mark
 
@@ -27,6 +27,29 @@ abbrev pub library_names : List (List ℕ)
 library_names =
     codes "malloc" ∷ codes "calloc" ∷ codes "realloc" ∷ codes "free" ∷ codes "getchar" ∷ codes "putchar" ∷ codes "memcpy"
     ∷ codes "memmove" ∷ codes "memset" ∷ codes "memcmp" ∷ codes "strlen" ∷ codes "exit" ∷ codes "abort" ∷ []
+
+-- their types, as they are spelled
+abbrev pub library_types : List (List ℕ)
+library_types =
+    codes "void *(unsigned long)" ∷ codes "void *(unsigned long, unsigned long)" ∷ codes "void *(void *, unsigned long)"
+    ∷ codes "void (void *)" ∷ codes "int (void)" ∷ codes "int (int)" ∷ codes "void *(void *, const void *, unsigned long)"
+    ∷ codes "void *(void *, const void *, unsigned long)" ∷ codes "void *(void *, int, unsigned long)"
+    ∷ codes "int (const void *, const void *, unsigned long)" ∷ codes "unsigned long (const char *)" ∷ codes "void (int)"
+    ∷ codes "void (void)" ∷ []
+
+-- the types of the entry points of `malloc`, `calloc` and `realloc` that take the token behind the other arguments
+abbrev pub entry_types : List (List ℕ)
+entry_types =
+    codes "void *(unsigned long, unsigned long)" ∷ codes "void *(unsigned long, unsigned long, unsigned long)"
+    ∷ codes "void *(void *, unsigned long, unsigned long)" ∷ []
+
+-- the types of the functions, by their numbers, that are called for a token in this way: only `malloc`, `calloc` and
+-- `realloc` are allocation sites and have entry points, and an entry point's own token is below 65,536
+abbrev pub marked_types : LibMark → List (List ℕ)
+marked_types (mark.Site k) = take 3 library_types
+marked_types mark.Untagged = library_types
+marked_types mark.Given = entry_types
+marked_types (mark.Fixed token) = if nat_lt token 65536 then take 3 library_types else []
 
 -- a library function's number, and for which token it is called
 abbrev pub Callee : Type 0
@@ -81,3 +104,6 @@ entry name =
 -- what a function without a body is, by its name
 abbrev pub callee_of : List ℕ → Option Callee
 callee_of name = or_else (marked mark.Untagged (number_of_name name 0 library_names)) (entry name)
+
+abbrev pub callee_type : Callee → Option (List ℕ)
+callee_type callee = slice_get (marked_types callee.1) callee.0
