@@ -8,3 +8,4 @@ pub mod Examples
 pub mod Formed
 pub mod Log
 pub mod Laws
+pub mod Sorted

@@ -1,5 +1,6 @@
 //! Laws of the meaning: empty functions whose contracts state them.
 
+ghost use Rattle.c_meaning.specs.Sorted.{SortsHold};
 ghost use Rattle.c_meaning.specs.Laws.{AnswersFit, AnswersSuffice, DepthsAgree, OneRun};
 
 /// The number of ticks bounds calls and turns of loops; no other bound has an effect.
@@ -16,4 +17,9 @@ pub fn answer_law()
 /// A program, its tokens, its input, the number of steps and the ranges have at most one run.
 pub fn one_run()
     ensures { OneRun }
+{}
+
+/// In a well-formed program each expression gives values of its sort alone.
+pub fn sort_law()
+    ensures { SortsHold }
 {}

@@ -16,6 +16,6 @@ pub use examples::{
     allocation_examples, call_examples, end_examples, sort_examples, trap_examples,
     well_formed_examples,
 };
-pub use laws::{answer_law, depth_law, one_run};
+pub use laws::{answer_law, depth_law, one_run, sort_law};
 pub use log::{Flow, LogEntry};
 pub use operands::{is_null, number_in, pointer_in};
