@@ -25,9 +25,9 @@ use Rattle.c_meaning.specs.declared.log.Flow.{Flow}
 use Rattle.c_meaning.specs.declared.log.Flow.TheVariants.{Next, Broke, Continued, Returned}
 use Rattle.c_meaning.specs.World.{M, act, change, tick, give, stop, within, make_locals, end_locals, take_room, give_room}
 use Rattle.c_meaning.specs.Rules.{int, no_value}
-use Rattle.c_meaning.specs.Meaning.{Calls, mean_expr, mean_each, mean_step, if_next, after_turn, turns, loop, zero_first, begun, mean_else, mean_list, mean_stmt, parameters, make_parameters, returned, run_body, is_number, run_callee, run_function, typed_call, call_value, call_at}
-use Rattle.c_meaning.specs.Sorted.{Has, GoesOnWith, SortsHold}
-use Rattle.c_meaning.proofs.Sorted.{and_true, steady, gives_kind}
+use Rattle.c_meaning.specs.Meaning.{Calls, mean_expr, mean_each, mean_step, if_next, after_turn, turns, loop, zero_first, begun, mean_else, mean_list, mean_stmt, parameters, make_parameters, returned, run_body, is_number, run_callee, run_function, typed_call, call_value, call_at, call_main, type_of, nowhere}
+use Rattle.c_meaning.specs.Sorted.{Has, GoesOnWith, SortsHold, MainGivesInt}
+use Rattle.c_meaning.proofs.Sorted.{IsOf, and_true, steady, gives_kind}
 use Rattle.c_meaning.proofs.SortedLibrary.{library_sorted}
 use Rattle.c_meaning.proofs.SortedExprs.{called_sort, CallsHold, if_goes, ticked_holds, expr_holds}
 
@@ -246,3 +246,18 @@ module _ (c : Program) (ok : well_formed c ≡ true) (marks : ℕ → ℕ) where
 
 pub sorts_hold : SortsHold
 sorts_hold c ok marks depth locals e = expr_holds c marks (call_at c marks depth) (calls_hold c ok marks depth) locals e
+
+main_through : (c : Program) (call : Calls) → CallsHold call → (i : ℕ) (x : Option t.Function) → slice_get c.funcs i ≡ x → is_main x ≡ true
+    → GoesOnWith (IsOf (scalar.Int kinds.Int)) (call (value.Ptr (Function i)) (type_of x) [] true nowhere)
+main_through c call calls i None e ok = absurd (let no : false ≡ true = ok in cc)
+main_through c call calls i (Some x) e ok =
+    let type : x.ty ≡ codes "int (void)" = (bytes_eq-Decides x.ty (codes "int (void)")).0 (and_true (is_some x.body) _ ok).1 in
+    subst (λ y. GoesOnWith (IsOf (scalar.Int kinds.Int)) (call (value.Ptr (Function i)) y [] true nowhere)) (sym type)
+    (calls (value.Ptr (Function i)) (codes "int (void)") [] true nowhere refl)
+
+main_called : (c : Program) (call : Calls) → CallsHold call → (main : Option ℕ) → has_main c main ≡ true → GoesOnWith (IsOf (scalar.Int kinds.Int)) (call_main c call main)
+main_called c call calls None ok f g k s = refl
+main_called c call calls (Some i) ok f g k s = main_through c call calls i (slice_get c.funcs i) refl ok f g k s
+
+pub main_gives_int : MainGivesInt
+main_gives_int c ok marks depth = main_called c (call_at c marks depth) (calls_hold c ok marks depth) c.main (main_ok c ok marks)

@@ -1,6 +1,6 @@
 //! Laws of the meaning: empty functions whose contracts state them.
 
-ghost use Rattle.c_meaning.specs.Sorted.{SortsHold};
+ghost use Rattle.c_meaning.specs.Sorted.{MainGivesInt, SortsHold};
 ghost use Rattle.c_meaning.specs.Laws.{AnswersFit, AnswersSuffice, DepthsAgree, OneRun};
 
 /// The number of ticks bounds calls and turns of loops; no other bound has an effect.
@@ -19,7 +19,8 @@ pub fn one_run()
     ensures { OneRun }
 {}
 
-/// In a well-formed program each expression gives values of its sort alone.
+/// In a well-formed program each expression gives values of its sort alone, and `main` gives an `int`.
 pub fn sort_law()
-    ensures { SortsHold }
+    ensures expressions { SortsHold }
+    ensures main { MainGivesInt }
 {}
