@@ -3,6 +3,9 @@
 //! a tree in memory is, form by form (`specs/Forms.antt`). `specs/Values.antt` and
 //! `specs/Blocks.antt` define how values stand in cells, and which fault an access has first
 //! (ISO/IEC 9899:2018, 6.2.6 and 6.5). Blocks have numbers and no addresses.
+//! `specs/WellFormed.antt` says which programs are well formed: every number names a thing that is there, and
+//! every part is of the sort that its form takes (`specs/Sorts.antt`), a call's by the spelling of its type
+//! (`specs/Signatures.antt`) or by the library's (`specs/Library.antt`).
 #![tactic(auto)]
 
 mod rows;

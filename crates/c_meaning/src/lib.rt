@@ -1,7 +1,8 @@
 //! What a core program means: the runs of the language. `specs/Meaning.antt` gives each form its meaning
 //! by structure, `run_of` the run of a program as a tree of what it asks the heap for, and `meaning` the
 //! output, the end and the requests for a list of answers. `specs/Log.antt` says which logs of the heap are
-//! logs of a run, over the legal histories of `range_heap`. The functions here are laws of these
+//! logs of a run, over the legal histories of `range_heap`. `specs/Sorted.antt` says that a well-formed
+//! program's expressions give values of their sorts. The functions here are laws of these
 //! definitions, and worked examples by computation.
 #![tactic(auto)]
 
