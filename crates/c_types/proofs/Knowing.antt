@@ -1,7 +1,6 @@
 -- The facts of a type from those of its parts.
-use Rattle.std.proofs.Common.{◌≡◌, ℕ, ◌*◌, ◌+◌, ◌<◌, List, [], ◌∷◌, ◌++◌, length, Bool, true, false, ◌||◌, Option, Some, None, slice_get, unwrap_or, refl, sym, ◌∙◌, ap, arith}
+use Rattle.std.proofs.Common.{◌≡◌, ℕ, ◌*◌, List, Bool, true, false, ◌||◌, Option, Some, None, unwrap_or, refl, sym, ◌∙◌, ap}
 use Rattle.std.specs.Option.{option_map}
-use Rattle.std.specs.Prelude.{is_some}
 use Rattle.c_types.specs.CTypes as c
 use Rattle.c_types.specs.CTypes.{CType}
 use Rattle.c_types.specs.Layout.{layout_at, size, align}

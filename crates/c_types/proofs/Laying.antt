@@ -1,5 +1,5 @@
 -- Layouts member by member.
-use Rattle.std.proofs.Common.{◌≡◌, ℕ, zero, suc, ◌<◌, ◌≤◌, ◌+◌, ◌*◌, ◌/◌, ◌-◌, max, List, [], ◌∷◌, ◌++◌, length, Bool, true, false, ◌||◌, ◌&&◌, Option, Some, None, get_or, drop, refl, sym, ◌∙◌, ap, arith, drop-cons, nat_eq, append_assoc}
+use Rattle.std.proofs.Common.{◌≡◌, ℕ, zero, suc, ◌<◌, ◌≤◌, ◌+◌, ◌-◌, max, List, [], ◌∷◌, ◌++◌, length, Bool, true, false, ◌||◌, ◌&&◌, Option, get_or, drop, refl, sym, ◌∙◌, ap, arith, drop-cons, nat_eq, append_assoc}
 use Rattle.std.specs.Prelude.{is_some, nat_le}
 use Rattle.std.proofs.Math.Nat.{lt-div-mul-add}
 use Rattle.std.proofs.lemmas.Bool.Decides.{nat_tests}
@@ -8,7 +8,6 @@ use Rattle.c_types.specs.Layout.{size, are_sized, is_empty, rounded, end_of, rea
 use Rattle.c_types.specs.Pointers.{contains_pointer, any_contains_pointer}
 use Rattle.c_types.specs.Table.{type_at, member_types, laid_out}
 use Rattle.c_types.specs.declared.records.Body.{Body}
-use Rattle.c_types.specs.declared.records.Layout.{Layout}
 use Rattle.c_types.specs.declared.records.Member.{Member}
 use Rattle.c_types.specs.declared.terms.Term.{Term}
 

@@ -1,5 +1,5 @@
 -- What keeps a table sound.
-use Rattle.std.proofs.Common.{◌≡◌, ◌⊎◌, inl, inr, ℕ, zero, suc, ◌<◌, ◌≤◌, ◌+◌, List, [], ◌∷◌, ◌++◌, length, Option, Some, None, Result, Ok, Err, slice_get, slice_set, refl, sym, ◌∙◌, ap, arith, subst, true, OnOk, OnErr, IfOk, length-append}
+use Rattle.std.proofs.Common.{◌≡◌, ◌⊎◌, inl, inr, ℕ, zero, suc, ◌<◌, List, [], ◌∷◌, ◌++◌, length, Option, Some, None, Result, Ok, Err, slice_get, slice_set, refl, ◌∙◌, ap, arith, subst, true, OnOk, OnErr, IfOk, length-append}
 use Rattle.std.specs.Option.{option_map}
 use Rattle.std.specs.Prelude.{option_and_then}
 use Rattle.c_types.specs.CTypes as c
@@ -17,7 +17,7 @@ use Rattle.c_types.specs.Table.{AreOrdered, PartsBelow, is_open, is_open_slot, n
 use Rattle.c_types.proofs.Growing.{grows_more, at_more, grows_self, ordered_more}
 use Rattle.c_types.proofs.Knowing.{fact_on}
 
-get_more : {A : Type 0} (xs : List A) (x y : A) (i : ℕ) → slice_get (xs ++ x ∷ []) i ≡ Some y → ((i < length xs) × (slice_get xs i ≡ Some y)) ⊎ ((i ≡ length xs) × (x ≡ y))
+pub get_more : {A : Type 0} (xs : List A) (x y : A) (i : ℕ) → slice_get (xs ++ x ∷ []) i ≡ Some y → ((i < length xs) × (slice_get xs i ≡ Some y)) ⊎ ((i ≡ length xs) × (x ≡ y))
 get_more [] x y zero e = inr (refl, cc)
 get_more [] x y (suc i) e = cc
 get_more (z ∷ xs) x y zero e = inl (omega arith, e)

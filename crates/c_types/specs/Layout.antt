@@ -1,5 +1,5 @@
 -- Sizes and alignments in bytes in the LP64 data model (ISO/IEC 9899:2018, 6.2.8, 6.5.3.4, 6.7.2.1).
-use Rattle.std.specs.Prelude.{ℕ, ◌+◌, ◌-◌, ◌*◌, ◌/◌, ◌%◌, max, Bool, true, false, ◌||◌, ◌&&◌, if◌then◌else◌, nat_le, List, [], ◌∷◌, Option, Some, None, is_some, unwrap_or, option_and_then, slice_get}
+use Rattle.std.specs.Prelude.{ℕ, ◌+◌, ◌-◌, ◌*◌, ◌/◌, max, Bool, true, false, ◌||◌, ◌&&◌, if◌then◌else◌, List, [], ◌∷◌, Option, Some, None, is_some, unwrap_or, option_and_then, slice_get}
 use Rattle.std.specs.Option.{option_map}
 use Rattle.num_ops.specs.declared.kinds.IntKind.{IntKind}
 use Rattle.num_ops.specs.Kinds.{width}

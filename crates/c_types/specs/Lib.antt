@@ -1,9 +1,14 @@
+pub mod Arrays
 pub mod CTypes
 pub mod Canonical
 pub mod Facts
+pub mod Found
+pub mod Keys
 pub mod Layout
 pub mod Pointers
+pub mod Roots
 pub mod Rows
+pub mod Sameness
 pub mod Sound
 pub mod Spelling
 pub mod Table

@@ -1,9 +1,8 @@
 -- Worked rows of the definitions, all by computation.
-use Rattle.std.specs.Prelude.{◌≡◌, ℕ, List, [], ◌∷◌, Some, None, true, false, codes, if◌then◌else◌, ◌==◌}
+use Rattle.std.specs.Prelude.{◌≡◌, [], ◌∷◌, Some, None, true, false, codes}
 use Rattle.num_ops.specs.declared.kinds.IntKind.TheVariants as k
-use Rattle.c_types.specs.CTypes.{CType, CTypes, Void, Int, Enum, Pointer, Array, Flexible, Function, Record, Named, Qualified, no_types, one_type}
-use Rattle.c_types.specs.Canonical.{canonical}
-use Rattle.c_types.specs.Layout.{size, align, record_size, offsets}
+use Rattle.c_types.specs.CTypes.{CType, Void, Int, Enum, Pointer, Array, Flexible, Function, Record, Named, Qualified, no_types, one_type}
+use Rattle.c_types.specs.Layout.{size, record_size, offsets}
 use Rattle.c_types.specs.Pointers.{contains_pointer}
 use Rattle.c_types.specs.Spelling.{Names, spelling}
 use Rattle.c_types.specs.Table.{refusal}

@@ -1,5 +1,5 @@
 -- A table of types: each term's parts are numbers of earlier terms.
-use Rattle.std.specs.Prelude.{◌≡◌, ℕ, zero, suc, ◌+◌, ◌*◌, ◌^◌, ◌<◌, ◌≤◌, if◌then◌else◌, nat_le, is_some, Bool, true, false, ◌||◌, ◌&&◌, List, [], ◌∷◌, ◌++◌, length, map, slice_get, slice_index_or, slice_set, Option, Some, None, unwrap_or, option_and_then, All}
+use Rattle.std.specs.Prelude.{◌≡◌, ℕ, suc, ◌*◌, ◌^◌, ◌<◌, ◌≤◌, if◌then◌else◌, nat_le, is_some, Bool, true, false, List, [], ◌∷◌, ◌++◌, length, map, take, slice_get, slice_index_or, slice_set, Option, Some, None, unwrap_or, option_and_then, All}
 use Rattle.std.specs.Option.{option_map}
 use Rattle.c_types.specs.CTypes as c
 use Rattle.c_types.specs.CTypes.{CType, CTypes, no_types, one_type, record_of}
@@ -117,6 +117,14 @@ AreOrdered ts = AreOrderedFrom 0 ts
 pub record Grows (old new : List Term) : Type 0 where
   pub longer : length old ≤ length new
   pub same : (i : ℕ) → i < length old → type_at new i ≡ type_at old i
+
+-- a table with the terms of another one in front, and the same records and enumerations
+pub record IsLonger (old new : Table) : Type 0 where
+  pub grows : Grows old.terms new.terms
+  pub front : take (length old.terms) new.terms ≡ old.terms
+  pub records : new.records ≡ old.records
+  pub bodies : new.bodies ≡ old.bodies
+  pub enums : new.enums ≡ old.enums
 
 -- the bytes from which on a type is too large
 abbrev pub limit : ℕ

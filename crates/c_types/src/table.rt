@@ -1,5 +1,8 @@
 //! The types of a unit by number.
 
+mod canonical;
+mod pushes;
+
 ghost use Rattle.std.specs.Prelude.{◌≡◌, ◌≢◌, ◌<◌, ◌≤◌, ◌^◌, max, ◌||◌, ◌&&◌, ◌↔◌, IsTrue, length, [], ◌∷◌, ◌++◌, IfOk, OnOk, OnErr, IfErr, IsSome, IfSome, option_and_then, Some, None, slice_get, unwrap_or, is_some, nat_le, false, true};
 ghost use Rattle.std.specs.Option.{option_copied, option_map};
 ghost use Rattle.c_types.specs.CTypes as c;
@@ -13,6 +16,7 @@ ghost use Rattle.c_types.specs.declared.terms.TypeEnd.TheVariants as end;
 ghost use Rattle.c_types.specs.declared.terms.Term.TheVariants as term;
 
 use crate::facts::{Facts, name_is_uintptr};
+use crate::numbers::Numbers;
 use crate::records::{Body, Head, Layout, Member};
 use crate::terms::{Term, TypeEnd, TypeId};
 use std::alloc::Global;
@@ -25,6 +29,10 @@ pub struct TypeTable {
     alloc: Global,
     terms: Reserved<Term>,
     facts: Reserved<Facts>,
+    /// The number of each type's canonical type.
+    roots: Reserved<TypeId>,
+    /// The numbers of the terms by their keys.
+    numbers: Numbers,
     records: Reserved<Head>,
     bodies: Reserved<Option<Body>>,
     enums: Reserved<Bytes>,
@@ -49,6 +57,8 @@ impl TypeTable {
     {
         let terms = Reserved::with_room(alloc, 0)?;
         let facts = Reserved::with_room(alloc, 0)?;
+        let roots = Reserved::with_room(alloc, 0)?;
+        let numbers = Numbers::new(alloc);
         let records = Reserved::with_room(alloc, 0)?;
         let bodies = Reserved::with_room(alloc, 0)?;
         let enums = Reserved::with_room(alloc, 0)?;
@@ -56,6 +66,8 @@ impl TypeTable {
             alloc,
             terms,
             facts,
+            roots,
+            numbers,
             records,
             bodies,
             enums,
@@ -276,7 +288,14 @@ impl TypeTable {
         ensures err { OnErr result (self.new ≡ self.old) }
     {
         let fact = self.fact_of(&term)?;
-        self.push(term, fact)
+        let before = self.len();
+        match self.add_known(term, fact) {
+            Ok(id) => Ok(id),
+            Err(end) => {
+                self.cut(before);
+                Err(end)
+            }
+        }
     }
 
     /// Declares a struct or union, which is not finished yet.
@@ -294,18 +313,14 @@ impl TypeTable {
         ensures cause { IfErr result (λ e. e ≡ end.NoMemory) }
         ensures err { OnErr result (self.new ≡ self.old) }
     {
-        let number = self.records.len() as u64;
-        let id = TypeId(self.terms.len() as u64);
-        push_record(
-            &mut self.terms,
-            &mut self.facts,
-            &mut self.records,
-            &mut self.bodies,
-            Term::Record(number),
-            Facts::of_record(number),
-            Head { is_union, name },
-        )?;
-        Ok(id)
+        let before = self.len();
+        match self.push_record(Head { is_union, name }) {
+            Ok(id) => Ok(id),
+            Err(NoMemory) => {
+                self.cut(before);
+                Err(TypeEnd::NoMemory)
+            }
+        }
     }
 
     /// Declares an enumeration.
@@ -323,17 +338,14 @@ impl TypeTable {
         ensures cause { IfErr result (λ e. e ≡ end.NoMemory) }
         ensures err { OnErr result (self.new ≡ self.old) }
     {
-        let number = self.enums.len() as u64;
-        let id = TypeId(self.terms.len() as u64);
-        push_enum(
-            &mut self.terms,
-            &mut self.facts,
-            &mut self.enums,
-            Term::Enum(number),
-            Facts::of_enum(),
-            name,
-        )?;
-        Ok(id)
+        let before = self.len();
+        match self.push_enum(name) {
+            Ok(id) => Ok(id),
+            Err(NoMemory) => {
+                self.cut(before);
+                Err(TypeEnd::NoMemory)
+            }
+        }
     }
 
     /// Finishes a record with its members. Refuses a member without a size, a last array without a
@@ -493,20 +505,6 @@ impl TypeTable {
         self.align_of(id).unwrap_or(1).max(1)
     }
 
-    /// Puts a type with its facts at the end.
-    fn push(&mut self, term: Term, fact: Facts) -> Result<TypeId, TypeEnd>
-        requires parts { PartsBelow (length self.old.terms) term }
-        requires fact { IsFact self.old.bodies (term_type self.old.terms term) fact }
-        ensures ok { IfOk result (λ id. id.0 ≡ length self.old.terms) }
-        ensures terms { OnOk result (self.new ≡ record self.old { terms = self.old.terms ++ term ∷ [] }) }
-        ensures err { OnErr result (self.new ≡ self.old) }
-        ensures cause { IfErr result (λ e. e ≡ end.NoMemory) }
-    {
-        let id = TypeId(self.terms.len() as u64);
-        push_both(&mut self.terms, &mut self.facts, term, fact)?;
-        Ok(id)
-    }
-
     /// The facts of a type to be made of this term, or why it can't be made.
     fn fact_of(&self, term: &Term) -> Result<Facts, TypeEnd>
         requires { PartsBelow (length self.now.terms) term.now }
@@ -609,72 +607,4 @@ fn rounded(at: u32, to: u32) -> u64
     ensures bound { result < 2 ^ 33 }
 {
     (at as u64 + (to as u64 - 1)) / to as u64 * to as u64
-}
-
-/// Puts both items at the end, or none.
-fn push_both(
-    terms: &mut Reserved<Term>,
-    facts: &mut Reserved<Facts>,
-    term: Term,
-    fact: Facts,
-) -> Result<(), NoMemory>
-    ensures terms { OnOk result (terms.new.items ≡ terms.old.items ++ term ∷ []) }
-    ensures facts { OnOk result (facts.new.items ≡ facts.old.items ++ fact ∷ []) }
-    ensures terms_stay { OnErr result (terms.new.items ≡ terms.old.items) }
-    ensures facts_stay { OnErr result (facts.new.items ≡ facts.old.items) }
-{
-    terms.reserve(1)?;
-    facts.reserve(1)?;
-    terms.push(term);
-    facts.push(fact);
-    Ok(())
-}
-
-/// Puts a record type with its facts and its record at the end, or nothing.
-fn push_record(
-    terms: &mut Reserved<Term>,
-    facts: &mut Reserved<Facts>,
-    records: &mut Reserved<Head>,
-    bodies: &mut Reserved<Option<Body>>,
-    term: Term,
-    fact: Facts,
-    head: Head,
-) -> Result<(), NoMemory>
-    ensures terms { OnOk result (terms.new.items ≡ terms.old.items ++ term ∷ []) }
-    ensures facts { OnOk result (facts.new.items ≡ facts.old.items ++ fact ∷ []) }
-    ensures records { OnOk result (records.new.items ≡ records.old.items ++ head ∷ []) }
-    ensures bodies { OnOk result (bodies.new.items ≡ bodies.old.items ++ None ∷ []) }
-    ensures terms_stay { OnErr result (terms.new.items ≡ terms.old.items) }
-    ensures facts_stay { OnErr result (facts.new.items ≡ facts.old.items) }
-    ensures records_stay { OnErr result (records.new.items ≡ records.old.items) }
-    ensures bodies_stay { OnErr result (bodies.new.items ≡ bodies.old.items) }
-{
-    records.reserve(1)?;
-    bodies.reserve(1)?;
-    push_both(terms, facts, term, fact)?;
-    records.push(head);
-    bodies.push(None);
-    Ok(())
-}
-
-/// Puts an enumeration type with its facts and its name at the end, or nothing.
-fn push_enum(
-    terms: &mut Reserved<Term>,
-    facts: &mut Reserved<Facts>,
-    enums: &mut Reserved<Bytes>,
-    term: Term,
-    fact: Facts,
-    name: Bytes,
-) -> Result<(), NoMemory>
-    ensures terms { OnOk result (terms.new.items ≡ terms.old.items ++ term ∷ []) }
-    ensures facts { OnOk result (facts.new.items ≡ facts.old.items ++ fact ∷ []) }
-    ensures enums { OnOk result (enums.new.items ≡ enums.old.items ++ name ∷ []) }
-    ensures terms_stay { OnErr result (terms.new.items ≡ terms.old.items) }
-    ensures facts_stay { OnErr result (facts.new.items ≡ facts.old.items) }
-    ensures enums_stay { OnErr result (enums.new.items ≡ enums.old.items) }
-{
-    enums.reserve(1)?;
-    push_both(terms, facts, term, fact)?;
-    enums.push(name);
-    Ok(())
 }

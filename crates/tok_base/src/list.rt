@@ -1,6 +1,6 @@
 //! Lists: `Items` takes memory as it grows, `Reserved` has its room made ahead.
 
-ghost use Rattle.std.specs.Prelude.{◌≡◌, [], ◌∷◌, ◌++◌, ◌+◌, ◌-◌, ◌<◌, ◌≤◌, length, drop, slice_get, slice_set, IfOk, OnOk, OnErr, OnSome};
+ghost use Rattle.std.specs.Prelude.{◌≡◌, [], ◌∷◌, ◌++◌, ◌+◌, ◌-◌, ◌<◌, ◌≤◌, length, take, drop, slice_get, slice_set, IfOk, OnOk, OnErr, OnSome};
 ghost use Rattle.std.specs.Option.{option_copied};
 
 use sqlite_items::Items;
@@ -110,6 +110,14 @@ impl<T: Drop> Reserved<T> {
         ensures room { self.new.room ≡ self.old.room }
     {
         self.list[at] = item;
+    }
+
+    /// Takes out all items but the first `count`; their room stays.
+    pub fn truncate(&mut self, count: usize)
+        ensures items { self.new.items ≡ take count self.old.items }
+        ensures room { self.old.room ≤ self.new.room }
+    {
+        self.list.truncate(count);
     }
 
     /// Takes all items out; their room stays.

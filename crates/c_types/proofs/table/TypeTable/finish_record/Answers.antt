@@ -1,7 +1,6 @@
-use Rattle.std.proofs.Common.{◌≡◌, ◌<◌, Option, Some, None, length, ap, ◌∙◌, slice_get}
+use Rattle.std.proofs.Common.{◌≡◌, Some, None, length, ap, ◌∙◌, slice_get}
 use Rattle.c_types.specs.Table.{Table, type_at}
 use Rattle.c_types.specs.Facts.{Extends}
-use Rattle.c_types.specs.declared.records.Body.{Body}
 use Rattle.c_types.proofs.Sounding.{length_set, facts_on, extends_set, open_is, within}
 use Rattle.c_types.proofs.table.TypeTable.finish_record.Goals as goal
 
@@ -20,5 +19,8 @@ invariant_of-self c =
       ordered = c.self.invariant.ordered;
       as_long = c.self.invariant.as_long;
       bodies_long = ap length c.set.ensures.items ∙ length_set c.self.inside.bodies.items c.record_number-number.result _ ∙ c.self.invariant.bodies_long;
+      roots_long = c.self.invariant.roots_long;
+      canonical = c.self.invariant.canonical;
+      found = c.self.invariant.found;
       facts = facts_on _ _ _ _ longer c.self.invariant.facts;
     }

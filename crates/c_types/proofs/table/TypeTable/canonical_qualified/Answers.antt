@@ -1,0 +1,16 @@
+use Rattle.std.proofs.Common.{◌≡◌, length}
+use Rattle.c_types.specs.Table.{type_at}
+use Rattle.c_types.proofs.Qualifying.{path_up, path_raised, all_below_up}
+use Rattle.c_types.proofs.table.TypeTable.canonical_qualified.Goals as goal
+
+pub ascend-requires-clause-levels : goal.ascend-requires-clause-levels
+ascend-requires-clause-levels c = all_below_up (length c.args.self.now.terms) (length c.qualified.new.self.terms) c.descend.new.levels.items c.qualified.ensures.longer.grows.longer c.in_ok-bottom.ensures.below
+
+pub ascend-requires-clause-raised : goal.ascend-requires-clause-raised
+ascend-requires-clause-raised c =
+    let grows = c.qualified.ensures.longer.grows in
+    let old = c.args.self.now.terms in
+    let new = c.qualified.new.self.terms in
+    let same : type_at new c.root-root.result.0 ≡ type_at old c.root-root.result.0 = grows.same c.root-root.result.0 c.root-root.ensures.root.first.below in
+    let path = path_up old new (type_at old c.root-root.result.0) c.descend.new.levels.items (type_at old c.in_ok-bottom.bottom.0) grows c.in_ok-bottom.ensures.below c.in_ok-bottom.ensures.path in
+    rw same (path_raised new c.args.qualifiers (type_at old c.root-root.result.0) c.descend.new.levels.items (type_at old c.in_ok-bottom.bottom.0) (type_at new c.in_ok-made.made.0) path c.in_ok-made.ensures.is)
