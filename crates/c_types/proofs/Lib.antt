@@ -3,6 +3,7 @@ pub mod Growing
 pub mod Keeping
 pub mod Knowing
 pub mod Laying
+pub mod Piecing
 pub mod Qualifying
 pub mod Rooting
 pub mod Sounding

@@ -5,6 +5,7 @@ pub mod Facts
 pub mod Found
 pub mod Keys
 pub mod Layout
+pub mod Pieces
 pub mod Pointers
 pub mod Roots
 pub mod Rows

@@ -2,6 +2,7 @@
 
 mod canonical;
 mod pushes;
+mod spelling;
 
 ghost use Rattle.std.specs.Prelude.{◌≡◌, ◌≢◌, ◌<◌, ◌≤◌, ◌^◌, max, ◌||◌, ◌&&◌, ◌↔◌, IsTrue, length, [], ◌∷◌, ◌++◌, IfOk, OnOk, OnErr, IfErr, IsSome, IfSome, option_and_then, Some, None, slice_get, unwrap_or, is_some, nat_le, false, true};
 ghost use Rattle.std.specs.Option.{option_copied, option_map};
