@@ -196,9 +196,9 @@ module _ (ts : List Term) (ps : List TypeId) (k : ℕ) where
   within_by n None e a = tt
   within_by n (Some p) e a = item_below n ps k p (sym e) a
 
-pub on_ok : {P Q : Type 0} (r : Result (Unit {0}) NoMemory) → (P → Q) → OnOk r P → OnOk r Q
-on_ok (Ok x) f p = f p
-on_ok (Err e) f p = tt
+pub on_ok : {P Q : Type 0} (r : Result (Unit {0}) NoMemory) → OnOk r P → (P → Q) → OnOk r Q
+on_ok (Ok x) p f = f p
+on_ok (Err e) p f = tt
 
 -- digits
 

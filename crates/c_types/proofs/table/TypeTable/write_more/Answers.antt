@@ -7,9 +7,7 @@ use Rattle.c_types.proofs.Piecing.{on_ok, written, parts}
 use Rattle.c_types.proofs.table.TypeTable.write_more.Goals as goal
 
 pub returns-in_ok-append-in-Some : goal.returns-in_ok-append-in-Some
-returns-in_ok-append-in-Some c = on_ok c.push_parameter.result
-    (λ e.
+returns-in_ok-append-in-Some c = on_ok c.push_parameter.result c.push_parameter.ensures (λ e.
     written c.args.self.now.terms (names_of c.args.self.now) (piece.More c.args.id c.args.from) _ _ c.args.pieces.now.items _ (44 ∷ 32 ∷ [])
     (piece.More c.args.id (c.args.from + 1) ∷ piece.Behind c.in-Some.parameter ∷ piece.Before 0 c.in-Some.parameter inside.Nothing ∷ []) c.in_ok-append-in-Some.ensures e
     (rw (c.in-Some.ensures.some, parts (names_of c.args.self.now) 0 (type_at c.args.self.now.terms c.in-Some.parameter.0) []) refl) (rw c.in-Some.ensures.some (omega arith)) (c.requires.id, (c.in-Some.ensures.within, (c.in-Some.ensures.within, tt))) c.requires.pieces)
-    c.push_parameter.ensures
