@@ -7,6 +7,7 @@
 
 mod facts;
 mod keys;
+mod laws;
 mod numbers;
 mod pieces;
 mod records;
@@ -16,6 +17,7 @@ mod terms;
 #[cfg(test)]
 mod tests;
 
+pub use laws::same_numbers_law;
 pub use records::Member;
 pub use rows::some_examples;
 pub use table::TypeTable;

@@ -259,6 +259,179 @@ fn nested_records(
     Ok(last)
 }
 
+fn returned(
+    rt: &(impl Abort + Alloc<A = Global>),
+    table: &mut TypeTable,
+    value: TypeId,
+) -> Result<TypeId, Fail> {
+    assert!(rt; value.0 < table.len());
+    let parameters = Items::new(rt.alloc());
+    Ok(table.add(Term::Function(value, parameters))?)
+}
+
+fn taken(
+    rt: &(impl Abort + Alloc<A = Global>),
+    table: &mut TypeTable,
+    value: TypeId,
+    parameter: TypeId,
+) -> Result<TypeId, Fail> {
+    assert!(rt; value.0 < table.len());
+    assert!(rt; parameter.0 < table.len());
+    let parameters = Items::from_slice(rt.alloc(), &[parameter])?;
+    Ok(table.add(Term::Function(value, parameters))?)
+}
+
+fn taken_twice(
+    rt: &(impl Abort + Alloc<A = Global>),
+    table: &mut TypeTable,
+    value: TypeId,
+) -> Result<TypeId, Fail> {
+    assert!(rt; value.0 < table.len());
+    let parameters = Items::from_slice(rt.alloc(), &[value, value])?;
+    Ok(table.add(Term::Function(value, parameters))?)
+}
+
+fn qualified(
+    rt: &(impl Abort + Alloc<A = Global>),
+    table: &mut TypeTable,
+    qualifiers: u8,
+    of: TypeId,
+) -> Result<TypeId, Fail> {
+    assert!(rt; of.0 < table.len());
+    assert!(rt; qualifiers < 8);
+    Ok(table.add(Term::Qualified(qualifiers, of))?)
+}
+
+fn canonical(rt: &impl Abort, table: &TypeTable, id: TypeId) -> TypeId {
+    assert!(rt; id.0 < table.len());
+    table.canonical(id)
+}
+
+fn same(rt: &impl Abort, table: &TypeTable, a: TypeId, b: TypeId) -> bool {
+    assert!(rt; a.0 < table.len());
+    assert!(rt; b.0 < table.len());
+    table.same(a, b)
+}
+
+fn spelled(
+    rt: &(impl Abort + Alloc<A = Global>),
+    table: &TypeTable,
+    id: TypeId,
+) -> Result<Bytes, Fail> {
+    assert!(rt; id.0 < table.len());
+    Ok(table.spelling(rt.alloc(), id)?)
+}
+
+fn is_spelled(
+    rt: &(impl Abort + Alloc<A = Global>),
+    table: &TypeTable,
+    id: TypeId,
+    text: &[u8],
+) -> Result<bool, Fail> {
+    let spelling = spelled(rt, table, id)?;
+    Ok(spelling.as_slice() == text)
+}
+
+/// An array of one array of one array and so on of `int`.
+fn nested_arrays(
+    rt: &(impl Abort + Alloc<A = Global>),
+    table: &mut TypeTable,
+    depth: u32,
+) -> Result<TypeId, Fail> {
+    let mut last = int(table, IntKind::Int)?;
+    for _ in 0..depth {
+        last = array(rt, table, last, 1)?;
+    }
+    Ok(last)
+}
+
+/// A function whose parameter is a pointer to a function whose parameter is one, and so on.
+fn nested_parameters(
+    rt: &(impl Abort + Alloc<A = Global>),
+    table: &mut TypeTable,
+    depth: u32,
+) -> Result<TypeId, Fail> {
+    let nothing = void(table)?;
+    let mut last = nothing;
+    for _ in 0..depth {
+        let called = taken(rt, table, nothing, last)?;
+        last = pointer(rt, table, called)?;
+    }
+    Ok(last)
+}
+
+/// How a type is made of another one.
+enum Step {
+    Pointer,
+    Array(u32),
+    Flexible,
+    Qualified(u8),
+    Name,
+    /// A function without parameters that returns it.
+    Returned,
+    /// A function that takes it, returning it too.
+    Taken,
+    /// A function that takes it twice, returning it too.
+    TakenTwice,
+}
+
+fn next_type(
+    rt: &(impl Abort + Alloc<A = Global>),
+    table: &mut TypeTable,
+    last: TypeId,
+    step: &Step,
+) -> Result<TypeId, Fail> {
+    match step {
+        Step::Pointer => pointer(rt, table, last),
+        Step::Array(count) => Ok(array(rt, table, last, *count)?),
+        Step::Flexible => flexible(rt, table, last),
+        Step::Qualified(qualifiers) => qualified(rt, table, *qualifiers, last),
+        Step::Name => typedef(rt, table, b"t", last),
+        Step::Returned => returned(rt, table, last),
+        Step::Taken => taken(rt, table, last, last),
+        Step::TakenTwice => taken_twice(rt, table, last),
+    }
+}
+
+fn made(
+    rt: &(impl Abort + Alloc<A = Global>),
+    table: &mut TypeTable,
+    first: TypeId,
+    steps: &[Step],
+) -> Result<TypeId, Fail> {
+    let mut last = first;
+    for one in steps {
+        last = next_type(rt, table, last, one)?;
+    }
+    Ok(last)
+}
+
+/// Whether the type that these steps make of an integer type is spelled so.
+fn row(
+    rt: &(impl Abort + Alloc<A = Global>),
+    kind: IntKind,
+    steps: &[Step],
+    text: &[u8],
+) -> Result<bool, Fail> {
+    let mut table = TypeTable::new(rt.alloc())?;
+    let first = int(&mut table, kind)?;
+    let last = made(rt, &mut table, first, steps)?;
+    is_spelled(rt, &table, last, text)
+}
+
+/// Whether these steps make one canonical type of an `int`.
+fn are_same(
+    rt: &(impl Abort + Alloc<A = Global>),
+    one: &[Step],
+    other: &[Step],
+) -> Result<bool, Fail> {
+    let mut table = TypeTable::new(rt.alloc())?;
+    let first = int(&mut table, IntKind::Int)?;
+    let a = made(rt, &mut table, first, one)?;
+    let b = made(rt, &mut table, first, other)?;
+    Ok(same(rt, &table, a, b))
+}
+
 #[test]
 fn arrays_up_to_the_limit(rt: HostRuntime) {
     assert!(rt; array_size(&rt, IntKind::Char, 268435455) == Ok(Some(268435455)));
@@ -328,5 +501,178 @@ fn fifty_thousand_nested_types(rt: HostRuntime) -> Result<(), Fail> {
     let records = nested_records(&rt, &mut table)?;
     assert!(rt; size(&rt, &table, pointers) == Some(8));
     assert!(rt; size(&rt, &table, records) == Some(4));
+    assert!(rt; !same(&rt, &table, pointers, records));
+    Ok(())
+}
+
+#[test]
+fn fifty_thousand_pointers_are_spelled(rt: HostRuntime) -> Result<(), Fail> {
+    let mut table = TypeTable::new(rt.alloc())?;
+    let pointers = nested_pointers(&rt, &mut table)?;
+    let again = nested_pointers(&rt, &mut table)?;
+    assert!(rt; same(&rt, &table, pointers, again));
+    assert!(rt; spelled(&rt, &table, pointers)?.len() == 50004);
+    Ok(())
+}
+
+#[test]
+fn fifty_thousand_records_are_spelled(rt: HostRuntime) -> Result<(), Fail> {
+    let mut table = TypeTable::new(rt.alloc())?;
+    let records = nested_records(&rt, &mut table)?;
+    assert!(rt; is_spelled(&rt, &table, records, b"r")?);
+    Ok(())
+}
+
+#[test]
+fn deep_arrays_take_qualifiers(rt: HostRuntime) -> Result<(), Fail> {
+    let mut table = TypeTable::new(rt.alloc())?;
+    let arrays = nested_arrays(&rt, &mut table, 20000)?;
+    let constant_arrays = constant(&rt, &mut table, arrays)?;
+    assert!(rt; !same(&rt, &table, arrays, constant_arrays));
+    assert!(rt; spelled(&rt, &table, constant_arrays)?.len() == 60003);
+    Ok(())
+}
+
+#[test]
+fn deep_parameters_are_spelled(rt: HostRuntime) -> Result<(), Fail> {
+    let mut table = TypeTable::new(rt.alloc())?;
+    let calls = nested_parameters(&rt, &mut table, 20000)?;
+    assert!(rt; spelled(&rt, &table, calls)?.len() == 200004);
+    Ok(())
+}
+
+#[test]
+fn pointers_and_arrays_are_spelled(rt: HostRuntime) -> Result<(), Fail> {
+    let kind = IntKind::Int;
+    assert!(rt; row(&rt, kind, &[Step::Array(4)], b"int[4]")?);
+    assert!(rt; row(&rt, kind, &[Step::Pointer, Step::Array(4)], b"int *[4]")?);
+    assert!(rt; row(&rt, kind, &[Step::Array(4), Step::Pointer], b"int (*)[4]")?);
+    assert!(rt; row(&rt, kind, &[Step::Flexible, Step::Pointer], b"int (*)[]")?);
+    assert!(rt;
+        row(
+            &rt,
+            IntKind::UChar,
+            &[Step::Array(268435455)],
+            b"unsigned char[268435455]"
+        )?
+    );
+    Ok(())
+}
+
+#[test]
+fn functions_are_spelled(rt: HostRuntime) -> Result<(), Fail> {
+    let kind = IntKind::Int;
+    assert!(rt; row(&rt, kind, &[Step::Returned], b"int (void)")?);
+    assert!(rt; row(&rt, kind, &[Step::Taken, Step::Pointer], b"int (*)(int)")?);
+    assert!(rt;
+        row(
+            &rt,
+            kind,
+            &[Step::Pointer, Step::TakenTwice],
+            b"int *(int *, int *)"
+        )?
+    );
+    assert!(rt;
+        row(
+            &rt,
+            kind,
+            &[Step::Array(2), Step::Pointer, Step::Returned],
+            b"int (*(void))[2]"
+        )?
+    );
+    Ok(())
+}
+
+#[test]
+fn qualifiers_are_spelled(rt: HostRuntime) -> Result<(), Fail> {
+    let kind = IntKind::Char;
+    assert!(rt;
+        row(
+            &rt,
+            kind,
+            &[Step::Qualified(3), Step::Pointer],
+            b"const volatile char *"
+        )?
+    );
+    assert!(rt; row(&rt, kind, &[Step::Pointer, Step::Qualified(1)], b"char *")?);
+    assert!(rt;
+        row(
+            &rt,
+            kind,
+            &[Step::Pointer, Step::Qualified(5), Step::Pointer],
+            b"char *const restrict *"
+        )?
+    );
+    assert!(rt;
+        row(
+            &rt,
+            kind,
+            &[Step::Array(3), Step::Qualified(1), Step::Pointer],
+            b"const char (*)[3]"
+        )?
+    );
+    assert!(rt; row(&rt, kind, &[Step::Array(3), Step::Qualified(1)], b"char[3]")?);
+    Ok(())
+}
+
+#[test]
+fn parameters_and_names_are_spelled(rt: HostRuntime) -> Result<(), Fail> {
+    assert!(rt; row(&rt, IntKind::Int, &[Step::Name, Step::Pointer], b"int *")?);
+    assert!(rt;
+        row(
+            &rt,
+            IntKind::Bool,
+            &[Step::Qualified(1), Step::Taken],
+            b"const _Bool (_Bool)"
+        )?
+    );
+    Ok(())
+}
+
+#[test]
+fn records_and_enumerations_are_spelled(rt: HostRuntime) -> Result<(), Fail> {
+    let mut table = TypeTable::new(rt.alloc())?;
+    let record = declare(&rt, &mut table, false)?;
+    let to_record = pointer(&rt, &mut table, record)?;
+    let e = enumeration(&rt, &mut table)?;
+    assert!(rt; is_spelled(&rt, &table, to_record, b"r *")?);
+    assert!(rt; is_spelled(&rt, &table, e, b"e")?);
+    Ok(())
+}
+
+#[test]
+fn canonical_types_are_compared(rt: HostRuntime) -> Result<(), Fail> {
+    assert!(rt; are_same(&rt, &[Step::Name], &[])?);
+    assert!(rt; !are_same(&rt, &[Step::Qualified(1)], &[])?);
+    assert!(rt;
+        are_same(
+            &rt,
+            &[Step::Qualified(1), Step::Qualified(2)],
+            &[Step::Qualified(3)]
+        )?
+    );
+    assert!(rt;
+        are_same(
+            &rt,
+            &[Step::Array(2), Step::Qualified(1)],
+            &[Step::Qualified(1), Step::Array(2)]
+        )?
+    );
+    assert!(rt;
+        !are_same(
+            &rt,
+            &[Step::Array(2), Step::Pointer],
+            &[Step::Array(3), Step::Pointer]
+        )?
+    );
+    Ok(())
+}
+
+#[test]
+fn the_canonical_type_of_a_name(rt: HostRuntime) -> Result<(), Fail> {
+    let mut table = TypeTable::new(rt.alloc())?;
+    let number = int(&mut table, IntKind::Int)?;
+    let name = typedef(&rt, &mut table, b"t", number)?;
+    assert!(rt; canonical(&rt, &table, name) == number);
     Ok(())
 }
