@@ -4,3 +4,4 @@ pub mod Examples
 pub mod Pieces
 pub mod Appended
 pub mod Valid
+mod Spelling

@@ -23,6 +23,7 @@ use Rattle.c_tree.specs.declared.statement.Stmt as xs
 use Rattle.c_tree.specs.declared.expression.Declarator.TheViews as w
 use Rattle.c_tree.specs.declared.expression.Expr as e
 use Rattle.c_tree.specs.declared.expression.Declarator as dd
+use Rattle.c_tree.specs.declared.expression.Record.{Record}
 
 exprs_row : (n : _) (row : b.Row_of-Expr n) → view_exprs row ≡ exprs_of (b.items-the_row-Expr n row)
 exprs_row n b.end_of-Expr = refl
@@ -72,13 +73,13 @@ params_row n (b.more_of-Param at shape ss d ps) =
 
 -- ---- lists and options as a constructor takes them
 
-exprs_hidden : (xs : List Expr) → view_exprs (b.hidden-the_row-Expr-2 xs) ≡ exprs_of xs
+pub exprs_hidden : (xs : List Expr) → view_exprs (b.hidden-the_row-Expr-2 xs) ≡ exprs_of xs
 exprs_hidden xs = exprs_row _ (b.hidden-the_row-Expr-2 xs) ∙ ap exprs_of (b.items_hidden-the_row-Expr-2 xs)
 
-specs_hidden : (ss : List Spec) → view_specs (b.hidden-the_row-Spec-0 ss) ≡ specs_of ss
+pub specs_hidden : (ss : List Spec) → view_specs (b.hidden-the_row-Spec-0 ss) ≡ specs_of ss
 specs_hidden ss = specs_row _ (b.hidden-the_row-Spec-0 ss) ∙ ap specs_of (b.items_hidden-the_row-Spec-0 ss)
 
-params_hidden : (ps : List Param) → view_params (b.hidden-the_row-Param-1 ps) ≡ params_of ps
+pub params_hidden : (ps : List Param) → view_params (b.hidden-the_row-Param-1 ps) ≡ params_of ps
 params_hidden ps = params_row _ (b.hidden-the_row-Param-1 ps) ∙ ap params_of (b.items_hidden-the_row-Param-1 ps)
 
 fields_hidden : (fs : List Field) → view_fields (b.hidden-the_row-Field-5 fs) ≡ fields_of fs
@@ -95,7 +96,7 @@ view_builtin at xs = ap (m.Builtin at) (exprs_hidden xs)
 pub view_call : (at : At) (f : Box Expr Global) (xs : List Expr) → view (e.Call at f xs) ≡ m.Call at (view f.value) (exprs_of xs)
 view_call at f xs = ap (m.Call at (view f.value)) (exprs_hidden xs)
 
-declarator_back : (d : Option (Box Declarator Global)) → view_maybe_declarator (b.back-Param-declarator d) ≡ boxed_declarator d
+pub declarator_back : (d : Option (Box Declarator Global)) → view_maybe_declarator (b.back-Param-declarator d) ≡ boxed_declarator d
 declarator_back None = refl
 declarator_back (Some d) = refl
 
@@ -142,12 +143,34 @@ inits_row : (n : _) (row : i.Row_of-Init n) → view_inits row ≡ inits_of (i.i
 inits_row n i.end_of-Init = refl
 inits_row n (i.more_of-Init a is) = ap (m.init (view_init a)) (inits_row _ is)
 
+pub inits_hidden : (is : List Init) → view_inits (i.hidden-the_row-Init-0 is) ≡ inits_of is
+inits_hidden is = inits_row _ (i.hidden-the_row-Init-0 is) ∙ ap inits_of (i.items_hidden-the_row-Init-0 is)
+
 pub view_braces : (at : At) (is : List Init) (comma : Bool) → view_init (ii.Braces at is comma) ≡ m.Braces at (inits_of is) comma
-view_braces at is comma = ap (λ x. m.Braces at x comma) (inits_row _ (i.hidden-the_row-Init-0 is) ∙ ap inits_of (i.items_hidden-the_row-Init-0 is))
+view_braces at is comma = ap (λ x. m.Braces at x comma) (inits_hidden is)
 
 items_row : (n : _) (row : x.Row_of-BlockItem n) → view_items row ≡ items_of (x.items-the_row-BlockItem n row)
 items_row n x.end_of-BlockItem = refl
 items_row n (x.more_of-BlockItem a is) = ap (view_block_item a) (items_row _ is)
 
+pub items_hidden : (is : List BlockItem) → view_items (x.hidden-the_row-BlockItem-0 is) ≡ items_of is
+items_hidden is = items_row _ (x.hidden-the_row-BlockItem-0 is) ∙ ap items_of (x.items_hidden-the_row-BlockItem-0 is)
+
 pub view_block : (at : At) (is : List BlockItem) → view_stmt (xs.Block (record { at = at; items = is })) ≡ m.Block at (items_of is)
-view_block at is = ap (m.Block at) (items_row _ (x.hidden-the_row-BlockItem-0 is) ∙ ap items_of (x.items_hidden-the_row-BlockItem-0 is))
+view_block at is = ap (m.Block at) (items_hidden is)
+
+-- ---- what a form is seen as by its parts
+
+pub expr_back : (a : Option (Box Expr Global)) → view_maybe (b.back-Declarator-ArrayOf-2 a) ≡ boxed_expr a
+expr_back None = refl
+expr_back (Some a) = refl
+
+pub record_seen : (r : Record) (ss : m.Specs) → view_record r ss ≡ m.Record (w.out-Record r).at (w.out-Record r).is_union (w.out-Record r).tag (body_of (w.out-Record r).fields) ss
+record_seen r ss =
+    ap (λ x. view_record x ss) (sym (w.roll-out-Record r))
+    ∙ view_record_spec (w.out-Record r).at (w.out-Record r).is_union (w.out-Record r).tag (w.out-Record r).fields ss
+
+pub list_seen : (l : EnumeratorList) → view_enumerator_list l ≡ m.list (enumerators_of (w.out-EnumeratorList l).enumerators) (w.out-EnumeratorList l).has_comma
+list_seen l =
+    ap view_enumerator_list (sym (w.roll-out-EnumeratorList l))
+    ∙ view_enumerators_list (w.out-EnumeratorList l).enumerators (w.out-EnumeratorList l).has_comma

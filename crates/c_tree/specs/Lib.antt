@@ -15,3 +15,4 @@ pub mod Places
 pub mod Laws
 pub mod Examples
 pub mod Printed
+pub mod Spelling
