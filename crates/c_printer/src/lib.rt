@@ -7,3 +7,6 @@
 mod printer;
 
 pub use printer::print_unit;
+
+#[cfg(test)]
+mod tests;

@@ -1,10 +1,9 @@
 //! The tokens that attributes, expressions, specifiers and declarators spell.
 
-ghost use Rattle.std.specs.Prelude.{◌≡◌, ◌∷◌, List, OnOk, map};
-ghost use Rattle.c_tree.specs.Marked as m;
+ghost use Rattle.std.specs.Prelude.{◌∷◌, OnOk, map};
 ghost use Rattle.c_tree.specs.Marks as marks;
-ghost use Rattle.c_tree.specs.Tok.{Tok, mark, word, name, KSizeof, LParen, RParen, LBracket, RBracket, Quest, Colon};
-ghost use Rattle.c_tree.specs.Spelling.{Adds, HeadsSpecs, mark_of, word_of};
+ghost use Rattle.c_tree.specs.Tok.{mark, word, name, LParen, RParen, LBracket, RBracket, Quest, Colon};
+ghost use Rattle.c_tree.specs.Spelling.{Adds, HeadsSpecs, mark_of};
 ghost use Rattle.c_tree.specs.View.{view, view_argument, view_attribute, view_entry, view_declarator, view_qualifier, view_type_name, view_spec, view_record, view_enum, view_enumerator_list};
 ghost use Rattle.c_tree.specs.View.{boxed_declarator, boxed_expr, declarators_of, enumerators_of, exprs_of, fields_of, params_of, specs_of};
 ghost use Rattle.c_tree.specs.Bare.{bare, bare_argument, bare_attribute, bare_declarator, bare_declarators, bare_entry, bare_enumerators, bare_exprs, bare_fields, bare_list, bare_maybe, bare_maybe_declarator, bare_params, bare_specs};
@@ -130,20 +129,10 @@ pub fn expr(out: &mut Tokens, a: &Expr) -> Result<(), NoMemory>
     match a {
         Expr::Comma(_, a, b) => pair(out, a, Mark::Comma, b),
         Expr::Assign(_, a, op, b) => pair(out, a, Mark::Assign(*op), b),
-        Expr::Cond(_, c, a, b) => {
-            expr(out, c)?;
-            out.mark(Mark::Question)?;
-            pair(out, a, Mark::Colon, b)
-        }
+        Expr::Cond(_, c, a, b) => choice(out, c, a, b),
         Expr::Binary(_, a, op, b) => pair(out, a, Mark::Binary(*op), b),
-        Expr::Cast(_, name, a) => {
-            type_name(out, name)?;
-            expr(out, a)
-        }
-        Expr::Prefix(_, op, a) => {
-            out.mark(Mark::Prefix(*op))?;
-            expr(out, a)
-        }
+        Expr::Cast(_, name, a) => cast(out, name, a),
+        Expr::Prefix(_, op, a) => prefixed(out, Mark::Prefix(*op), a),
         Expr::SizeofExpr(_, a) => {
             out.word(Word::Sizeof)?;
             expr(out, a)
@@ -152,29 +141,19 @@ pub fn expr(out: &mut Tokens, a: &Expr) -> Result<(), NoMemory>
             out.word(Word::Sizeof)?;
             type_name(out, name)
         }
-        Expr::Index(_, a, b) => {
-            pair(out, a, Mark::LeftBracket, b)?;
-            out.mark(Mark::RightBracket)
-        }
+        Expr::Index(_, a, b) => index(out, a, b),
         Expr::Call(_, f, xs) => {
             expr(out, f)?;
             arguments(out, xs)
         }
         Expr::Dot(_, a, n) => member(out, a, Mark::Point, n),
         Expr::Arrow(_, a, n) => member(out, a, Mark::Arrow, n),
-        Expr::Post(_, a, op) => {
-            expr(out, a)?;
-            out.mark(Mark::Post(*op))
-        }
+        Expr::Post(_, a, op) => postfixed(out, a, Mark::Post(*op)),
         Expr::Name(_, n) => out.name(n),
         Expr::Number(_, n) => out.number(n),
         Expr::Char(_, c) => out.char(c),
         Expr::Text(_, ts) => texts(out, ts),
-        Expr::Paren(_, a) => {
-            out.mark(Mark::LeftParen)?;
-            expr(out, a)?;
-            out.mark(Mark::RightParen)
-        }
+        Expr::Paren(_, a) => in_parens(out, a),
         Expr::Builtin(_, xs) => {
             out.word(Word::Builtin)?;
             arguments(out, xs)
@@ -192,6 +171,60 @@ fn pair(out: &mut Tokens, a: &Expr, between: Mark, b: &Expr) -> Result<(), NoMem
 }
 
 #[cycle(spell)]
+fn choice(out: &mut Tokens, c: &Expr, a: &Expr, b: &Expr) -> Result<(), NoMemory>
+    ensures { OnOk result (Adds out.old out.new (λ rest. put (bare (view c.now)) (mark Quest ∷ put (bare (view a.now)) (mark Colon ∷ put (bare (view b.now)) rest)))) }
+{
+    expr(out, c)?;
+    out.mark(Mark::Question)?;
+    expr(out, a)?;
+    out.mark(Mark::Colon)?;
+    expr(out, b)
+}
+
+#[cycle(spell)]
+fn cast(out: &mut Tokens, t: &TypeName, a: &Expr) -> Result<(), NoMemory>
+    ensures { OnOk result (Adds out.old out.new (λ rest. mark LParen ∷ put_specs (bare_specs (specs_of t.now.specs)) (put_maybe_declarator (bare_maybe_declarator (boxed_declarator t.now.declarator)) (mark RParen ∷ put (bare (view a.now)) rest)))) }
+{
+    type_name(out, t)?;
+    expr(out, a)
+}
+
+#[cycle(spell)]
+fn prefixed(out: &mut Tokens, before: Mark, a: &Expr) -> Result<(), NoMemory>
+    ensures { OnOk result (Adds out.old out.new (λ rest. mark (mark_of before) ∷ put (bare (view a.now)) rest)) }
+{
+    out.mark(before)?;
+    expr(out, a)
+}
+
+#[cycle(spell)]
+fn postfixed(out: &mut Tokens, a: &Expr, behind: Mark) -> Result<(), NoMemory>
+    ensures { OnOk result (Adds out.old out.new (λ rest. put (bare (view a.now)) (mark (mark_of behind) ∷ rest))) }
+{
+    expr(out, a)?;
+    out.mark(behind)
+}
+
+#[cycle(spell)]
+fn index(out: &mut Tokens, a: &Expr, b: &Expr) -> Result<(), NoMemory>
+    ensures { OnOk result (Adds out.old out.new (λ rest. put (bare (view a.now)) (mark LBracket ∷ put (bare (view b.now)) (mark RBracket ∷ rest)))) }
+{
+    expr(out, a)?;
+    out.mark(Mark::LeftBracket)?;
+    expr(out, b)?;
+    out.mark(Mark::RightBracket)
+}
+
+#[cycle(spell)]
+pub fn in_parens(out: &mut Tokens, a: &Expr) -> Result<(), NoMemory>
+    ensures { OnOk result (Adds out.old out.new (λ rest. mark LParen ∷ put (bare (view a.now)) (mark RParen ∷ rest))) }
+{
+    out.mark(Mark::LeftParen)?;
+    expr(out, a)?;
+    out.mark(Mark::RightParen)
+}
+
+#[cycle(spell)]
 fn member(out: &mut Tokens, a: &Expr, between: Mark, n: &Bytes) -> Result<(), NoMemory>
     ensures { OnOk result (Adds out.old out.new (λ rest. put (bare (view a.now)) (mark (mark_of between) ∷ name n.now ∷ rest))) }
 {
@@ -200,6 +233,7 @@ fn member(out: &mut Tokens, a: &Expr, between: Mark, n: &Bytes) -> Result<(), No
     out.name(n)
 }
 
+/// Arguments with commas between them, in parentheses.
 #[cycle(spell)]
 fn arguments(out: &mut Tokens, xs: &Items<Expr>) -> Result<(), NoMemory>
     ensures { OnOk result (Adds out.old out.new (λ rest. mark LParen ∷ put_exprs (bare_exprs (exprs_of xs.now)) (mark RParen ∷ rest))) }
@@ -215,6 +249,7 @@ fn arguments(out: &mut Tokens, xs: &Items<Expr>) -> Result<(), NoMemory>
     out.mark(Mark::RightParen)
 }
 
+/// A type name in parentheses.
 #[cycle(spell)]
 fn type_name(out: &mut Tokens, t: &TypeName) -> Result<(), NoMemory>
     ensures { OnOk result (Adds out.old out.new (λ rest. mark LParen ∷ put_specs (bare_specs (specs_of t.now.specs)) (put_maybe_declarator (bare_maybe_declarator (boxed_declarator t.now.declarator)) (mark RParen ∷ rest)))) }

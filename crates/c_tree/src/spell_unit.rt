@@ -1,18 +1,17 @@
 //! The tokens that initialisers, declarations, statements and a unit spell.
 
-ghost use Rattle.std.specs.Prelude.{◌≡◌, ◌∷◌, [], List, OnOk, IfOk, map};
-ghost use Rattle.c_tree.specs.Marked as m;
+ghost use Rattle.std.specs.Prelude.{◌≡◌, ◌∷◌, [], OnOk, IfOk, map};
 ghost use Rattle.c_tree.specs.Tok.{mark, word, LBrace, LParen, RBrace, RParen, Semi, KFor};
 ghost use Rattle.c_tree.specs.Lexeme.{lexeme};
 ghost use Rattle.c_tree.specs.Reading.{spelled};
-ghost use Rattle.c_tree.specs.Spelling.{Adds, HeadsItems, mark_of, word_of};
+ghost use Rattle.c_tree.specs.Spelling.{Adds, HeadsItems, word_of};
 ghost use Rattle.c_tree.specs.View.{view, view_attribute, view_block_item, view_declaration, view_definition, view_external, view_first, view_init, view_item, view_maybe_expr, view_maybe_init, view_stmt, view_unit};
 ghost use Rattle.c_tree.specs.View.{inits_of, items_of};
 ghost use Rattle.c_tree.specs.Bare.{bare, bare_attribute, bare_block, bare_declaration, bare_external, bare_first, bare_init, bare_inits, bare_item, bare_maybe, bare_maybe_init, bare_stmt, bare_unit};
 ghost use Rattle.c_tree.specs.Put.{put, put_all, put_attribute, put_block, put_commas, put_declaration, put_external, put_first, put_init, put_inits, put_item, put_maybe, put_maybe_init, put_stmt, put_unit};
 
 use crate::expression::{Attribute, Expr};
-use crate::spell::{attribute, comma_if, declarator, expr, specs};
+use crate::spell::{attribute, comma_if, declarator, expr, in_parens, specs};
 use crate::statement::{
     Block, BlockItem, Declaration, Definition, External, ForFirst, Init, Item, Stmt, Unit,
 };
@@ -129,9 +128,7 @@ fn condition(out: &mut Tokens, w: Word, c: &Expr) -> Result<(), NoMemory>
     ensures { OnOk result (Adds out.old out.new (λ rest. word (word_of w) ∷ mark LParen ∷ put (bare (view c.now)) (mark RParen ∷ rest))) }
 {
     out.word(w)?;
-    out.mark(Mark::LeftParen)?;
-    expr(out, c)?;
-    out.mark(Mark::RightParen)
+    in_parens(out, c)
 }
 
 fn first(out: &mut Tokens, f: &ForFirst) -> Result<(), NoMemory>

@@ -15,17 +15,16 @@ declarator-returns-in_ok-params-in-FunctionOf t c =
     (map_ok c.mark-in-FunctionOf-2.result
     (λ h rest. h rest ∙ c.in_ok-params-in-FunctionOf.ensures _ ∙ c.in_ok-mark-in-FunctionOf.ensures _ ∙ c.in_ok-declarator-in-FunctionOf.ensures _) c.mark-in-FunctionOf-2.ensures)))
 
-pub expr-returns-in_ok-type_name-in-Cast : goal.expr-returns-in_ok-type_name-in-Cast
-expr-returns-in_ok-type_name-in-Cast t c =
+pub expr-returns-in-Cast : goal.expr-returns-in-Cast
+expr-returns-in-Cast t c =
     let name = c.in-Cast.name.value in
-    rw c.in-Cast.is (rw (specs_hidden name.specs) (rw (declarator_back name.declarator) (rw (sym c.deref-in-Cast.ensures) (rw (sym c.deref-in-Cast-2.ensures)
-    (map_ok c.expr-in-Cast.result (λ h rest. h rest ∙ c.in_ok-type_name-in-Cast.ensures _) c.expr-in-Cast.ensures)))))
+    rw c.in-Cast.is (rw (specs_hidden name.specs) (rw (declarator_back name.declarator) (rw (sym c.deref-in-Cast.ensures) (rw (sym c.deref-in-Cast-2.ensures) c.cast.ensures))))
 
 pub expr-returns-in_ok-word-in-SizeofType : goal.expr-returns-in_ok-word-in-SizeofType
 expr-returns-in_ok-word-in-SizeofType t c =
     let name = c.in-SizeofType.name.value in
     rw c.in-SizeofType.is (rw (specs_hidden name.specs) (rw (declarator_back name.declarator) (rw (sym c.deref-in-SizeofType.ensures)
-    (map_ok c.type_name-in-SizeofType.result (λ h rest. h rest ∙ c.in_ok-word-in-SizeofType.ensures _) c.type_name-in-SizeofType.ensures))))
+    (map_ok c.type_name.result (λ h rest. h rest ∙ c.in_ok-word-in-SizeofType.ensures _) c.type_name.ensures))))
 
 pub expr-returns-in_ok-expr-in-Call : goal.expr-returns-in_ok-expr-in-Call
 expr-returns-in_ok-expr-in-Call t c =

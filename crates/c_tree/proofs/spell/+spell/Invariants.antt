@@ -4,6 +4,7 @@ use Rattle.c_tree.specs.Put.{put_fields, put_more_declarators, put_more_enumerat
 use Rattle.c_tree.specs.View.{declarators_of, enumerators_of, exprs_of, fields_of, params_of, specs_of}
 use Rattle.c_tree.specs.Spelling.{Left}
 use Rattle.c_tree.specs.declared.expression.Expr.{size-Expr}
+use Rattle.c_tree.specs.declared.expression.TypeName.{size-TypeName}
 use Rattle.c_tree.proofs.spell.+spell.Given as goal
 
 -- twice the depth, and one more for a function that hands its own argument on
@@ -64,6 +65,24 @@ decreases-type_name l = 2 * goal.size-type_name l
 
 abbrev pub decreases-pair : goal.decreases-pair
 decreases-pair l = 2 * max (size-Expr l.a.now) (size-Expr l.b.now) + 1
+
+abbrev pub decreases-index : goal.decreases-index
+decreases-index l = 2 * max (size-Expr l.a.now) (size-Expr l.b.now) + 1
+
+abbrev pub decreases-choice : goal.decreases-choice
+decreases-choice l = 2 * max (size-Expr l.c.now) (max (size-Expr l.a.now) (size-Expr l.b.now)) + 1
+
+abbrev pub decreases-cast : goal.decreases-cast
+decreases-cast l = 2 * max (size-TypeName l.t.now) (size-Expr l.a.now) + 1
+
+abbrev pub decreases-prefixed : goal.decreases-prefixed
+decreases-prefixed l = 2 * goal.size-prefixed l + 1
+
+abbrev pub decreases-postfixed : goal.decreases-postfixed
+decreases-postfixed l = 2 * goal.size-postfixed l + 1
+
+abbrev pub decreases-in_parens : goal.decreases-in_parens
+decreases-in_parens l = 2 * goal.size-in_parens l + 1
 
 abbrev pub invariant-arguments-loop-a : goal.invariant-arguments-loop-a
 invariant-arguments-loop-a l = Left (λ xs. put_more_exprs (bare_exprs (exprs_of xs))) l.initial.out l.out l.more l.a-index
