@@ -1,5 +1,5 @@
 -- What is printed reads as its unit.
-use Rattle.std.proofs.Common.{◌≡◌, ℕ, List, [], Result, Ok, Err, IfOk, refl, sym}
+use Rattle.std.proofs.Common.{◌≡◌, ℕ, List, [], Result, Ok, Err, IfOk, refl}
 use Rattle.c_tree.specs.Printed.{unit_text}
 use Rattle.c_tree.specs.Reading.{spelled}
 use Rattle.c_tree.specs.Tree.{External}

@@ -1,7 +1,7 @@
 //! The lines of a unit.
 
 ghost use Rattle.std.specs.Prelude.{◌≡◌, ◌++◌, [], IfOk, OnOk, map};
-ghost use Rattle.c_lexer.specs.Lines.{line_text, text_of_lines};
+ghost use Rattle.c_lexer.specs.Lines.{line_text};
 ghost use Rattle.c_tree.specs.Bare.{bare_external, bare_unit};
 ghost use Rattle.c_tree.specs.Lexeme.{lexeme};
 ghost use Rattle.c_tree.specs.Printed.{unit_text};

@@ -1,5 +1,5 @@
 -- A list of tokens that grows by what parts of a tree spell.
-use Rattle.std.specs.Prelude.{◌≡◌, ℕ, List, ◌∷◌, ◌++◌, map, drop}
+use Rattle.std.specs.Prelude.{◌≡◌, ℕ, List, ◌++◌, map, drop}
 use Rattle.tok_base.specs.declared.token.Lexeme.{Lexeme}
 use Rattle.c_tree.specs.Tok as t
 use Rattle.c_tree.specs.Tok.{Tok, Punct}

@@ -4,7 +4,7 @@ ghost use Rattle.std.specs.Prelude.{◌∷◌, OnOk, map};
 ghost use Rattle.c_tree.specs.Marks as marks;
 ghost use Rattle.c_tree.specs.Tok.{mark, word, name, LParen, RParen, LBracket, RBracket, Quest, Colon};
 ghost use Rattle.c_tree.specs.Spelling.{Adds, HeadsSpecs, mark_of};
-ghost use Rattle.c_tree.specs.View.{view, view_argument, view_attribute, view_entry, view_declarator, view_qualifier, view_type_name, view_spec, view_record, view_enum, view_enumerator_list};
+ghost use Rattle.c_tree.specs.View.{view, view_argument, view_attribute, view_entry, view_declarator, view_qualifier, view_spec, view_record, view_enum, view_enumerator_list};
 ghost use Rattle.c_tree.specs.View.{boxed_declarator, boxed_expr, declarators_of, enumerators_of, exprs_of, fields_of, params_of, specs_of};
 ghost use Rattle.c_tree.specs.Bare.{bare, bare_argument, bare_attribute, bare_declarator, bare_declarators, bare_entry, bare_enumerators, bare_exprs, bare_fields, bare_list, bare_maybe, bare_maybe_declarator, bare_params, bare_specs};
 ghost use Rattle.c_tree.specs.Put.{put, put_all, put_argument, put_attribute, put_commas, put_comma_if, put_declarator, put_declarators, put_entry, put_enumerators, put_exprs, put_fields, put_list, put_maybe, put_maybe_declarator, put_name, put_params, put_specs, put_text, put_value, put_word};
