@@ -44,21 +44,21 @@ erase_specs_read ss = record { specs = map erase_spec ss.specs; seen = ss.seen; 
 
 abbrev mutual
   pub erase_stmt : InStmt → i.InStmt
-  erase_stmt (in_block from is k) = i.in_block (map erase_block_item is) (erase_body k)
-  erase_stmt (in_then from c k) = i.in_then (bare c) (erase_stmt k)
-  erase_stmt (in_else from c a k) = i.in_else (bare c) (bare_stmt a) (erase_stmt k)
-  erase_stmt (in_while from c k) = i.in_while (bare c) (erase_stmt k)
-  erase_stmt (in_do from k) = i.in_do (erase_stmt k)
-  erase_stmt (in_for from f c e k) = i.in_for (bare_first f) (bare_maybe c) (bare_maybe e) (erase_stmt k)
+  erase_stmt (in_block o is k) = i.in_block (map erase_block_item is) (erase_body k)
+  erase_stmt (in_then o c k) = i.in_then (bare c) (erase_stmt k)
+  erase_stmt (in_else o c a k) = i.in_else (bare c) (bare_stmt a) (erase_stmt k)
+  erase_stmt (in_while o c k) = i.in_while (bare c) (erase_stmt k)
+  erase_stmt (in_do o k) = i.in_do (erase_stmt k)
+  erase_stmt (in_for o f c e k) = i.in_for (bare_first f) (bare_maybe c) (bare_maybe e) (erase_stmt k)
 
   pub erase_body : InBody → i.InBody
-  erase_body (of_definition from done ss d) = i.of_definition (bare_unit done) (bare_specs ss) (bare_declarator d)
+  erase_body (of_definition deep o done ss d) = i.of_definition (bare_unit done) (bare_specs ss) (bare_declarator d)
   erase_body (of_stmt k) = i.of_stmt (erase_stmt k)
 
 abbrev pub erase_declaration : InDeclaration → i.InDeclaration
-erase_declaration (of_external done) = i.of_external (bare_unit done)
-erase_declaration (of_block from is k) = i.of_block (map erase_block_item is) (erase_body k)
-erase_declaration (of_for from k) = i.of_for (erase_stmt k)
+erase_declaration (of_external deep done) = i.of_external (bare_unit done)
+erase_declaration (of_block o is k) = i.of_block (map erase_block_item is) (erase_body k)
+erase_declaration (of_for o k) = i.of_for (erase_stmt k)
 
 abbrev pub erase_items : InItems → i.InItems
 erase_items q = record { specs = bare_specs q.specs; typedef = q.typedef; items = map bare_item q.items; place = erase_declaration q.place }
@@ -68,7 +68,7 @@ erase_item_read x = record { before = erase_items x.before; declarator = bare_de
 
 abbrev pub erase_init : InInit → i.InInit
 erase_init (of_item x) = i.of_item (erase_item_read x)
-erase_init (in_braces from is k) = i.in_braces (map bare_init is) (erase_init k)
+erase_init (in_braces o is k) = i.in_braces (map bare_init is) (erase_init k)
 
 abbrev pub erase_condition : Condition → i.Condition
 erase_condition of_if = i.of_if
@@ -110,35 +110,35 @@ erase_type sizeof_type = i.sizeof_type
 
 abbrev mutual
   pub erase_expr : InExpr → i.InExpr
-  erase_expr (in_operand from o k) = i.in_operand (erase_operand o) (erase_expr k)
-  erase_expr (in_bracket from o k) = i.in_bracket (erase_bracket o) (erase_expr k)
-  erase_expr (in_stmt from o k) = i.in_stmt (erase_part o) (erase_stmt k)
+  erase_expr (in_operand o x k) = i.in_operand (erase_operand x) (erase_expr k)
+  erase_expr (in_bracket o x k) = i.in_bracket (erase_bracket x) (erase_expr k)
+  erase_expr (in_stmt o x k) = i.in_stmt (erase_part x) (erase_stmt k)
   erase_expr (in_init k) = i.in_init (erase_init k)
-  erase_expr (in_value from n k) = i.in_value n (erase_enum k)
-  erase_expr (in_array from d k) = i.in_array (bare_declarator d) (erase_declarator k)
+  erase_expr (in_value o n k) = i.in_value n (erase_enum k)
+  erase_expr (in_array o d k) = i.in_array (bare_declarator d) (erase_declarator k)
 
   pub erase_declarator : InDeclarator → i.InDeclarator
-  erase_declarator (in_pointer from qs k) = i.in_pointer qs (erase_declarator k)
-  erase_declarator (in_group from k) = i.in_group (erase_declarator k)
+  erase_declarator (in_pointer o qs k) = i.in_pointer qs (erase_declarator k)
+  erase_declarator (in_group o k) = i.in_group (erase_declarator k)
   erase_declarator (in_item q) = i.in_item (erase_items q)
-  erase_declarator (in_field from f ss ds) = i.in_field (erase_fields f) (bare_specs ss) (map bare_declarator ds)
-  erase_declarator (in_param from k ss) = i.in_param (erase_params k) (bare_specs ss)
-  erase_declarator (in_type from t_from c k ss) = i.in_type (erase_type c) (erase_expr k) (bare_specs ss)
+  erase_declarator (in_field o f ss ds) = i.in_field (erase_fields f) (bare_specs ss) (map bare_declarator ds)
+  erase_declarator (in_param o k ss) = i.in_param (erase_params k) (bare_specs ss)
+  erase_declarator (in_type o t c k ss) = i.in_type (erase_type c) (erase_expr k) (bare_specs ss)
 
   pub erase_specs : InSpecs → i.InSpecs
   erase_specs (of_declaration q) = i.of_declaration (erase_declaration q)
   erase_specs (of_field f) = i.of_field (erase_fields f)
   erase_specs (of_param k) = i.of_param (erase_params k)
-  erase_specs (of_type from c k) = i.of_type (erase_type c) (erase_expr k)
+  erase_specs (of_type o c k) = i.of_type (erase_type c) (erase_expr k)
 
   pub erase_fields : InFields → i.InFields
-  erase_fields (in_fields from is_union tag fs ss k) = i.in_fields is_union tag (map erase_field fs) (erase_specs_read ss) (erase_specs k)
+  erase_fields (in_fields o is_union tag fs ss k) = i.in_fields is_union tag (map erase_field fs) (erase_specs_read ss) (erase_specs k)
 
   pub erase_enum : InEnum → i.InEnum
-  erase_enum (in_enum from tag es ss k) = i.in_enum tag (map erase_enumerator es) (erase_specs_read ss) (erase_specs k)
+  erase_enum (in_enum o tag es ss k) = i.in_enum tag (map erase_enumerator es) (erase_specs_read ss) (erase_specs k)
 
   pub erase_params : InParams → i.InParams
-  erase_params (in_params from d ps k) = i.in_params (bare_declarator d) (map erase_param ps) (erase_declarator k)
+  erase_params (in_params o d ps k) = i.in_params (bare_declarator d) (map erase_param ps) (erase_declarator k)
 
 abbrev pub erase_in_attribute : InAttribute → i.InAttribute
 erase_in_attribute (of_specs ss k) = i.of_specs (erase_specs_read ss) (erase_specs k)
@@ -160,31 +160,31 @@ erase_attribute_mode (attribute_closing es) = i.attribute_closing (map bare_entr
 
 abbrev pub erase_specs_mode : SpecsMode → i.SpecsMode
 erase_specs_mode (in_specs ss k) = i.in_specs (erase_specs_read ss) (erase_specs k)
-erase_specs_mode (after_tagged from g ss k) = i.after_tagged g (erase_specs_read ss) (erase_specs k)
-erase_specs_mode (after_tag from g n ss k) = i.after_tag g n (erase_specs_read ss) (erase_specs k)
+erase_specs_mode (after_tagged o g ss k) = i.after_tagged g (erase_specs_read ss) (erase_specs k)
+erase_specs_mode (after_tag o g n ss k) = i.after_tag g n (erase_specs_read ss) (erase_specs k)
 erase_specs_mode (want_field f) = i.want_field (erase_fields f)
 erase_specs_mode (want_enumerator k) = i.want_enumerator (erase_enum k)
-erase_specs_mode (after_enumerator from n k) = i.after_enumerator n (erase_enum k)
+erase_specs_mode (after_enumerator o n k) = i.after_enumerator n (erase_enum k)
 erase_specs_mode (want_param k) = i.want_param (erase_params k)
 
 abbrev pub erase_declarator_mode : DeclaratorMode → i.DeclaratorMode
 erase_declarator_mode (want_declarator k) = i.want_declarator (erase_declarator k)
-erase_declarator_mode (after_star from qs k) = i.after_star qs (erase_declarator k)
-erase_declarator_mode (declarator_opened from k) = i.declarator_opened (erase_declarator k)
-erase_declarator_mode (after_declarator from k d) = i.after_declarator (erase_declarator k) (bare_declarator d)
-erase_declarator_mode (array_opened from d k) = i.array_opened (bare_declarator d) (erase_declarator k)
-erase_declarator_mode (params_opened from d k) = i.params_opened (bare_declarator d) (erase_declarator k)
+erase_declarator_mode (after_star o qs k) = i.after_star qs (erase_declarator k)
+erase_declarator_mode (declarator_opened o k) = i.declarator_opened (erase_declarator k)
+erase_declarator_mode (after_declarator h k d) = i.after_declarator (erase_declarator k) (bare_declarator d)
+erase_declarator_mode (array_opened o d k) = i.array_opened (bare_declarator d) (erase_declarator k)
+erase_declarator_mode (params_opened o d k) = i.params_opened (bare_declarator d) (erase_declarator k)
 
 abbrev pub erase_expr_mode : ExprMode → i.ExprMode
 erase_expr_mode (want_expr k) = i.want_expr (erase_expr k)
-erase_expr_mode (after_expr from k a) = i.after_expr (erase_expr k) (bare a)
+erase_expr_mode (after_expr h k a) = i.after_expr (erase_expr k) (bare a)
 erase_expr_mode (after_text from k ns) = i.after_text (erase_expr k) ns
-erase_expr_mode (opened from k) = i.opened (erase_expr k)
-erase_expr_mode (after_sizeof from k) = i.after_sizeof (erase_expr k)
-erase_expr_mode (sizeof_opened from p_from k) = i.sizeof_opened (erase_expr k)
-erase_expr_mode (args_opened from f k) = i.args_opened (bare f) (erase_expr k)
-erase_expr_mode (after_builtin from k) = i.after_builtin (erase_expr k)
-erase_expr_mode (want_member from a c k) = i.want_member (bare a) c (erase_expr k)
+erase_expr_mode (opened o k) = i.opened (erase_expr k)
+erase_expr_mode (after_sizeof o k) = i.after_sizeof (erase_expr k)
+erase_expr_mode (sizeof_opened o p_from k) = i.sizeof_opened (erase_expr k)
+erase_expr_mode (args_opened o f k) = i.args_opened (bare f) (erase_expr k)
+erase_expr_mode (after_builtin o k) = i.after_builtin (erase_expr k)
+erase_expr_mode (want_member o a c k) = i.want_member (bare a) c (erase_expr k)
 
 abbrev pub erase_unended : Unended → i.Unended
 erase_unended broken = i.broken
@@ -193,23 +193,23 @@ erase_unended (done_while s c) = i.done_while (bare_stmt s) (bare c)
 
 abbrev pub erase_stmt_mode : StmtMode → i.StmtMode
 erase_stmt_mode (want_stmt k) = i.want_stmt (erase_stmt k)
-erase_stmt_mode (after_stmt k s) = i.after_stmt (erase_stmt k) (bare_stmt s)
-erase_stmt_mode (want_paren from c k) = i.want_paren (erase_condition c) (erase_stmt k)
-erase_stmt_mode (after_for from k) = i.after_for (erase_stmt k)
-erase_stmt_mode (for_opened from k) = i.for_opened (erase_stmt k)
-erase_stmt_mode (want_condition from f k) = i.want_condition (bare_first f) (erase_stmt k)
-erase_stmt_mode (want_step from f c k) = i.want_step (bare_first f) (bare_maybe c) (erase_stmt k)
-erase_stmt_mode (want_semi from s k) = i.want_semi (erase_unended s) (erase_stmt k)
-erase_stmt_mode (after_return from k) = i.after_return (erase_stmt k)
+erase_stmt_mode (after_stmt d k s) = i.after_stmt (erase_stmt k) (bare_stmt s)
+erase_stmt_mode (want_paren o c k) = i.want_paren (erase_condition c) (erase_stmt k)
+erase_stmt_mode (after_for o k) = i.after_for (erase_stmt k)
+erase_stmt_mode (for_opened o k) = i.for_opened (erase_stmt k)
+erase_stmt_mode (want_condition o f k) = i.want_condition (bare_first f) (erase_stmt k)
+erase_stmt_mode (want_step o f c k) = i.want_step (bare_first f) (bare_maybe c) (erase_stmt k)
+erase_stmt_mode (want_semi o s k) = i.want_semi (erase_unended s) (erase_stmt k)
+erase_stmt_mode (after_return o k) = i.after_return (erase_stmt k)
 
 abbrev pub erase : Mode → i.Mode
-erase (want_external done) = i.want_external (bare_unit done)
-erase (in_attribute from c k) = i.in_attribute (erase_attribute_mode c) (erase_in_attribute k)
+erase (want_external deep done) = i.want_external (bare_unit done)
+erase (in_attribute o c k) = i.in_attribute (erase_attribute_mode c) (erase_in_attribute k)
 erase (specs c) = i.specs (erase_specs_mode c)
 erase (declarator c) = i.declarator (erase_declarator_mode c)
 erase (after_attributes x) = i.after_attributes (erase_item_read x)
 erase (want_init k) = i.want_init (erase_init k)
-erase (after_init k x) = i.after_init (erase_init k) (bare_init x)
+erase (after_init d k x) = i.after_init (erase_init k) (bare_init x)
 erase (expr c) = i.expr (erase_expr_mode c)
 erase (stmt c) = i.stmt (erase_stmt_mode c)
 

@@ -21,6 +21,9 @@ nat_le_true h = le-leb _ _ h
 pub nat_le_false : {a b : ℕ} → b < a → nat_le a b ≡ false
 nat_le_false {a} {b} h = grind (arith, nat_tests)
 
+pub nat_le_no : (a b : ℕ) → nat_le a b ≡ false → b < a
+nat_le_no a b h = grind (arith, nat_tests, h)
+
 pub nat_le_yes : (a b : ℕ) → nat_le a b ≡ true → a ≤ b
 nat_le_yes a b h = leb-true a b h
 

@@ -6,7 +6,7 @@ use Rattle.c_tree.specs.Tree.{External}
 use Rattle.std.specs.List.{AllByRecursion}
 use Rattle.c_tree.specs.Put.{toks}
 use Rattle.c_tree.specs.Depth.{unit_depth}
-use Rattle.c_reader.specs.Inside.{Mode, want_external, in_attribute, specs, declarator, after_attributes, want_init, after_init, expr, stmt}
+use Rattle.c_reader.specs.Inside.{Mode, State, want_external, in_attribute, specs, declarator, after_attributes, want_init, after_init, expr, stmt}
 use Rattle.c_reader.specs.Machine.{specs_mode_next, declarator_mode_next, step_at, step, Read, step_tok, on_step, run, unit_at, Answer, answer_end, answer}
 use Rattle.c_reader.specs.Above.{so_far}
 use Rattle.c_reader.specs.Machine as machine
@@ -17,8 +17,8 @@ use Rattle.c_tree.specs.Lexeme.{lexeme}
 use Rattle.c_tree.specs.Reading.{Begins}
 use Rattle.c_tree.proofs.Lexemes.{apart}
 use Rattle.c_reader.specs.Laws.{AreLexemes, Tells, UnitsAreKept, AnswersAreRight, UnitsAreUnique, DeepIsKnown, DepthIsKnown}
-use Rattle.c_reader.proofs.Sound.{ValidTok}
-use Rattle.c_reader.proofs.Place.{BeginsTok, Told, told}
+use Rattle.c_reader.proofs.Sound.{ValidTok, Ran, ran}
+use Rattle.c_reader.proofs.Place.{BeginsTok, Told, told, begin_ok, reached_begins}
 use Rattle.c_reader.proofs.Statements.{parses, unique}
 use Rattle.c_reader.proofs.Deep.{deep}
 
@@ -31,7 +31,7 @@ unmap (x ∷ done) (y ∷ ts) q e =
     let r = unmap done ts q tails in
     (r.0, ap (λ z. z ∷ ts) (apart y x heads) ∙ ap (λ zs. x ∷ zs) r.1)
 
-map_append : (ts us : List Tok) → map lexeme (ts ++ us) ≡ map lexeme ts ++ map lexeme us
+pub map_append : (ts us : List Tok) → map lexeme (ts ++ us) ≡ map lexeme ts ++ map lexeme us
 map_append [] us = refl
 map_append (x ∷ ts) us = ap (λ zs. lexeme x ∷ zs) (map_append ts us)
 
@@ -63,11 +63,11 @@ valid_tok (g.word w) h = tt
 valid_tok (g.other w) h = tt
 valid_tok (g.mark m) h = tt
 
-valid_toks : (ts : List Tok) → AreLexemes ts → AllByRecursion ValidTok ts
+pub valid_toks : (ts : List Tok) → AreLexemes ts → AllByRecursion ValidTok ts
 valid_toks [] h = tt
 valid_toks (x ∷ ts) h = (valid_tok x (All-head IsLexeme (lexeme x) (map lexeme ts) h), valid_toks ts (All-tail IsLexeme (lexeme x) (map lexeme ts) h))
 
-begins : (done : List Tok) → BeginsTok done → Begins (map lexeme done)
+pub begins : (done : List Tok) → BeginsTok done → Begins (map lexeme done)
 begins done h = (h.0, h.1, map lexeme h.2, ap (map lexeme) h.3 ∙ map_append done h.2)
 
 begins_tok : (done : List Tok) → Begins (map lexeme done) → BeginsTok done
@@ -86,6 +86,10 @@ tells ts (Answer.wrong rest) e h =
 
 pub answers_are_right : AnswersAreRight
 answers_are_right ts h = tells ts (machine.read ts) refl (told ts (valid_toks ts h))
+
+-- tokens that lead to a state begin a unit
+pub reached_is_begun : (ts : List Tok) (s : State) → AreLexemes ts → run machine.begin ts ≡ Read.reached s → Begins (map lexeme ts)
+reached_is_begun ts s h e = begins ts (reached_begins ts s (subst (Ran machine.begin ts) e (ran ts machine.begin (valid_toks ts h) begin_ok)))
 
 -- ---- the depth
 

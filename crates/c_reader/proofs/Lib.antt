@@ -38,3 +38,12 @@ pub mod MarksExprs
 pub mod MarksStmts
 pub mod MarksRun
 pub mod MarkedWhole
+pub mod Counted
+pub mod CountedDeclarations
+pub mod CountedDeclarators
+pub mod CountedSpecs
+pub mod CountedExprs
+pub mod CountedStmts
+pub mod CountedRun
+pub mod Low
+pub mod ReaderDeep

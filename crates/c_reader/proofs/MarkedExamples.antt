@@ -1,7 +1,7 @@
 -- The examples of numbers and places, computed.
 use Rattle.std.proofs.Common.{refl}
 use Rattle.c_tree.specs.Lexeme.{words, marks}
-use Rattle.c_reader.specs.MarkedExamples.{DeclaredSo, StatementsHaveNodes, DeclarationsHaveNodes, ExpressionsHaveNodes, StopsThere}
+use Rattle.c_reader.specs.MarkedExamples.{DeclaredSo, StatementsHaveNodes, DeclarationsHaveNodes, ExpressionsHaveNodes, StopsThere, DepthIsCounted, DeepTextsStop}
 
 pub declared : DeclaredSo
 unfolding words marks
@@ -22,3 +22,11 @@ expressions = (refl, refl)
 pub stops : StopsThere
 unfolding words marks
 stops = refl
+
+pub depth : DepthIsCounted
+unfolding words marks
+depth = (refl, refl)
+
+pub deep : DeepTextsStop
+unfolding words marks
+deep = (refl, refl, refl, refl, refl, refl, refl)

@@ -18,34 +18,34 @@ AtUnit z done x = Did (pieces_unit done) z x
 
 abbrev mutual
   pub AtStmt : Spot → InStmt → Spot → Type 0
-  AtStmt z (in_block from is k) x = Opened (AtBody z k) from (λ ps. token (g.mark g.LBrace) ∷ pieces_block (items_of is) ps) x
-  AtStmt z (in_then from c k) x = Opened (AtStmt z k) from (λ ps. token (g.word g.KIf) ∷ token (g.mark g.LParen) ∷ pieces c (token (g.mark g.RParen) ∷ ps)) x
-  AtStmt z (in_else from c a k) x =
-      Opened (AtStmt z k) from (λ ps. token (g.word g.KIf) ∷ token (g.mark g.LParen) ∷ pieces c (token (g.mark g.RParen) ∷ pieces_stmt a (token (g.word g.KElse) ∷ ps))) x
-  AtStmt z (in_while from c k) x = Opened (AtStmt z k) from (λ ps. token (g.word g.KWhile) ∷ token (g.mark g.LParen) ∷ pieces c (token (g.mark g.RParen) ∷ ps)) x
-  AtStmt z (in_do from k) x = Opened (AtStmt z k) from (λ ps. token (g.word g.KDo) ∷ ps) x
-  AtStmt z (in_for from f c e k) x =
-      Opened (AtStmt z k) from
+  AtStmt z (in_block node is k) x = Opened (AtBody z k) node.from (λ ps. token (g.mark g.LBrace) ∷ pieces_block (items_of is) ps) x
+  AtStmt z (in_then node c k) x = Opened (AtStmt z k) node.from (λ ps. token (g.word g.KIf) ∷ token (g.mark g.LParen) ∷ pieces c (token (g.mark g.RParen) ∷ ps)) x
+  AtStmt z (in_else node c a k) x =
+      Opened (AtStmt z k) node.from (λ ps. token (g.word g.KIf) ∷ token (g.mark g.LParen) ∷ pieces c (token (g.mark g.RParen) ∷ pieces_stmt a (token (g.word g.KElse) ∷ ps))) x
+  AtStmt z (in_while node c k) x = Opened (AtStmt z k) node.from (λ ps. token (g.word g.KWhile) ∷ token (g.mark g.LParen) ∷ pieces c (token (g.mark g.RParen) ∷ ps)) x
+  AtStmt z (in_do node k) x = Opened (AtStmt z k) node.from (λ ps. token (g.word g.KDo) ∷ ps) x
+  AtStmt z (in_for node f c e k) x =
+      Opened (AtStmt z k) node.from
       (λ ps. token (g.word g.KFor) ∷ token (g.mark g.LParen) ∷ pieces_first f (pieces_maybe c (token (g.mark g.Semi) ∷ pieces_maybe e (token (g.mark g.RParen) ∷ ps)))) x
 
   pub AtBody : Spot → InBody → Spot → Type 0
-  AtBody z (of_definition from done ss d) x = Opened (AtUnit z done) from (λ ps. pieces_specs ss (pieces_declarator d ps)) x
+  AtBody z (of_definition deep node done ss d) x = Opened (AtUnit z done) node.from (λ ps. pieces_specs ss (pieces_declarator d ps)) x
   AtBody z (of_stmt k) x = AtStmt z k x
 
 abbrev pub AtDeclaration : Spot → InDeclaration → Spot → Type 0
-AtDeclaration z (of_external done) x = AtUnit z done x
-AtDeclaration z (of_block from is k) x = Opened (AtBody z k) from (λ ps. token (g.mark g.LBrace) ∷ pieces_block (items_of is) ps) x
-AtDeclaration z (of_for from k) x = Opened (AtStmt z k) from (λ ps. token (g.word g.KFor) ∷ token (g.mark g.LParen) ∷ ps) x
+AtDeclaration z (of_external deep done) x = AtUnit z done x
+AtDeclaration z (of_block node is k) x = Opened (AtBody z k) node.from (λ ps. token (g.mark g.LBrace) ∷ pieces_block (items_of is) ps) x
+AtDeclaration z (of_for node k) x = Opened (AtStmt z k) node.from (λ ps. token (g.word g.KFor) ∷ token (g.mark g.LParen) ∷ ps) x
 
 abbrev pub AtItems : Spot → InItems → Spot → Type 0
-AtItems z q x = Opened (AtDeclaration z q.place) q.from (λ ps. pieces_specs q.specs (pieces_done pieces_item q.items ps)) x
+AtItems z q x = Opened (AtDeclaration z q.place) q.node.from (λ ps. pieces_specs q.specs (pieces_done pieces_item q.items ps)) x
 
 abbrev pub AtItemRead : Spot → ItemRead → Spot → Type 0
-AtItemRead z v x = Opened (AtItems z v.before) v.from (λ ps. pieces_declarator v.declarator (pieces_all pieces_attribute v.attributes ps)) x
+AtItemRead z v x = Opened (AtItems z v.before) v.node.from (λ ps. pieces_declarator v.declarator (pieces_all pieces_attribute v.attributes ps)) x
 
 abbrev pub AtInit : Spot → InInit → Spot → Type 0
-AtInit z (of_item v) x = Opened (AtItems z v.before) v.from (λ ps. pieces_declarator v.declarator (pieces_all pieces_attribute v.attributes (token (g.mark g.Assign) ∷ ps))) x
-AtInit z (in_braces from is k) x = Opened (AtInit z k) from (λ ps. token (g.mark g.LBrace) ∷ pieces_done pieces_init is ps) x
+AtInit z (of_item v) x = Opened (AtItems z v.before) v.node.from (λ ps. pieces_declarator v.declarator (pieces_all pieces_attribute v.attributes (token (g.mark g.Assign) ∷ ps))) x
+AtInit z (in_braces node is k) x = Opened (AtInit z k) node.from (λ ps. token (g.mark g.LBrace) ∷ pieces_done pieces_init is ps) x
 
 abbrev pub pieces_condition : Condition → List Piece → List Piece
 pieces_condition of_if ps = token (g.word g.KIf) ∷ ps
@@ -87,42 +87,42 @@ pieces_place sizeof_type ps = token (g.word g.KSizeof) ∷ token (g.mark g.LPare
 
 abbrev mutual
   pub AtExpr : Spot → InExpr → Spot → Type 0
-  AtExpr z (in_operand from o k) x = Opened (AtExpr z k) from (pieces_operand o) x
-  AtExpr z (in_bracket from o k) x = Opened (AtExpr z k) from (pieces_bracket o) x
-  AtExpr z (in_stmt from o k) x = Opened (AtStmt z k) from (pieces_part o) x
+  AtExpr z (in_operand node o k) x = Opened (AtExpr z k) node.from (pieces_operand o) x
+  AtExpr z (in_bracket node o k) x = Opened (AtExpr z k) node.from (pieces_bracket o) x
+  AtExpr z (in_stmt node o k) x = Opened (AtStmt z k) node.from (pieces_part o) x
   AtExpr z (in_init k) x = AtInit z k x
-  AtExpr z (in_value from n k) x = Opened (AtEnum z k) from (λ ps. token (g.name n) ∷ token (g.mark g.Assign) ∷ ps) x
-  AtExpr z (in_array from d k) x = Opened (AtDeclarator z k) from (λ ps. pieces_declarator d (token (g.mark g.LBracket) ∷ ps)) x
+  AtExpr z (in_value node n k) x = Opened (AtEnum z k) node.from (λ ps. token (g.name n) ∷ token (g.mark g.Assign) ∷ ps) x
+  AtExpr z (in_array node d k) x = Opened (AtDeclarator z k) node.from (λ ps. pieces_declarator d (token (g.mark g.LBracket) ∷ ps)) x
 
   pub AtDeclarator : Spot → InDeclarator → Spot → Type 0
-  AtDeclarator z (in_pointer from qs k) x = Opened (AtDeclarator z k) from (λ ps. token (g.mark g.Star) ∷ pieces_all pieces_word qs ps) x
-  AtDeclarator z (in_group from k) x = Opened (AtDeclarator z k) from (λ ps. token (g.mark g.LParen) ∷ ps) x
+  AtDeclarator z (in_pointer node qs k) x = Opened (AtDeclarator z k) node.from (λ ps. token (g.mark g.Star) ∷ pieces_all pieces_word qs ps) x
+  AtDeclarator z (in_group node k) x = Opened (AtDeclarator z k) node.from (λ ps. token (g.mark g.LParen) ∷ ps) x
   AtDeclarator z (in_item q) x = AtItems z q x
-  AtDeclarator z (in_field from f ss ds) x = Opened (AtFields z f) from (λ ps. pieces_specs ss (pieces_done pieces_declarator ds ps)) x
-  AtDeclarator z (in_param from k ss) x = Opened (AtParams z k) from (pieces_specs ss) x
-  AtDeclarator z (in_type from t_from c k ss) x = Opened (Opened (AtExpr z k) from (pieces_place c)) t_from (pieces_specs ss) x
+  AtDeclarator z (in_field node f ss ds) x = Opened (AtFields z f) node.from (λ ps. pieces_specs ss (pieces_done pieces_declarator ds ps)) x
+  AtDeclarator z (in_param node k ss) x = Opened (AtParams z k) node.from (pieces_specs ss) x
+  AtDeclarator z (in_type node inner c k ss) x = Opened (Opened (AtExpr z k) node.from (pieces_place c)) inner.from (pieces_specs ss) x
 
   pub AtSpecs : Spot → InSpecs → Spot → Type 0
   AtSpecs z (of_declaration q) x = AtDeclaration z q x
   AtSpecs z (of_field f) x = AtFields z f x
   AtSpecs z (of_param k) x = AtParams z k x
-  AtSpecs z (of_type from c k) x = Opened (AtExpr z k) from (pieces_place c) x
+  AtSpecs z (of_type node c k) x = Opened (AtExpr z k) node.from (pieces_place c) x
 
   pub AtFields : Spot → InFields → Spot → Type 0
-  AtFields z (in_fields from is_union tag fs ss k) x =
-      Opened (Opened (AtSpecs z k) ss.from (pieces_specs (specs_of ss.specs))) from
+  AtFields z (in_fields node is_union tag fs ss k) x =
+      Opened (Opened (AtSpecs z k) ss.node.from (pieces_specs (specs_of ss.specs))) node.from
       (λ ps. token (g.word (record_word is_union)) ∷ pieces_name tag (token (g.mark g.LBrace) ∷ pieces_fields (fields_of fs) ps)) x
 
   pub AtEnum : Spot → InEnum → Spot → Type 0
-  AtEnum z (in_enum from tag es ss k) x =
-      Opened (Opened (AtSpecs z k) ss.from (pieces_specs (specs_of ss.specs))) from
+  AtEnum z (in_enum node tag es ss k) x =
+      Opened (Opened (AtSpecs z k) ss.node.from (pieces_specs (specs_of ss.specs))) node.from
       (λ ps. token (g.word g.KEnum) ∷ pieces_name tag (token (g.mark g.LBrace) ∷ pieces_done pieces_enumerator es ps)) x
 
   pub AtParams : Spot → InParams → Spot → Type 0
-  AtParams z (in_params from d qs k) x = Opened (AtDeclarator z k) from (λ ps. pieces_declarator d (token (g.mark g.LParen) ∷ pieces_done pieces_param qs ps)) x
+  AtParams z (in_params node d qs k) x = Opened (AtDeclarator z k) node.from (λ ps. pieces_declarator d (token (g.mark g.LParen) ∷ pieces_done pieces_param qs ps)) x
 
 abbrev pub AtSpecsRead : Spot → SpecsRead → InSpecs → Spot → Type 0
-AtSpecsRead z ss k x = Opened (AtSpecs z k) ss.from (pieces_specs (specs_of ss.specs)) x
+AtSpecsRead z ss k x = Opened (AtSpecs z k) ss.node.from (pieces_specs (specs_of ss.specs)) x
 
 abbrev pub AtAttribute : Spot → InAttribute → Spot → Type 0
 AtAttribute z (of_specs ss k) x = AtSpecsRead z ss k x
@@ -155,31 +155,31 @@ AtAttributeMode z from a (attribute_closing es) x = Opened (AtAttribute z a) fro
 
 abbrev pub AtSpecsMode : Spot → SpecsMode → Spot → Type 0
 AtSpecsMode z (in_specs ss k) x = AtSpecsRead z ss k x
-AtSpecsMode z (after_tagged from t ss k) x = Opened (AtSpecsRead z ss k) from (λ ps. token (g.word (tagged_word t)) ∷ ps) x
-AtSpecsMode z (after_tag from t n ss k) x = Opened (AtSpecsRead z ss k) from (λ ps. token (g.word (tagged_word t)) ∷ token (g.name n) ∷ ps) x
+AtSpecsMode z (after_tagged node t ss k) x = Opened (AtSpecsRead z ss k) node.from (λ ps. token (g.word (tagged_word t)) ∷ ps) x
+AtSpecsMode z (after_tag node t n ss k) x = Opened (AtSpecsRead z ss k) node.from (λ ps. token (g.word (tagged_word t)) ∷ token (g.name n) ∷ ps) x
 AtSpecsMode z (want_field f) x = AtFields z f x
 AtSpecsMode z (want_enumerator k) x = AtEnum z k x
-AtSpecsMode z (after_enumerator from n k) x = Opened (AtEnum z k) from (λ ps. token (g.name n) ∷ ps) x
+AtSpecsMode z (after_enumerator node n k) x = Opened (AtEnum z k) node.from (λ ps. token (g.name n) ∷ ps) x
 AtSpecsMode z (want_param k) x = AtParams z k x
 
 abbrev pub AtDeclaratorMode : Spot → DeclaratorMode → Spot → Type 0
 AtDeclaratorMode z (want_declarator k) x = AtDeclarator z k x
-AtDeclaratorMode z (after_star from qs k) x = Opened (AtDeclarator z k) from (λ ps. token (g.mark g.Star) ∷ pieces_all pieces_word qs ps) x
-AtDeclaratorMode z (declarator_opened from k) x = Opened (AtDeclarator z k) from (λ ps. token (g.mark g.LParen) ∷ ps) x
-AtDeclaratorMode z (after_declarator from k d) x = Opened (AtDeclarator z k) from (pieces_declarator d) x
-AtDeclaratorMode z (array_opened from d k) x = Opened (AtDeclarator z k) from (λ ps. pieces_declarator d (token (g.mark g.LBracket) ∷ ps)) x
-AtDeclaratorMode z (params_opened from d k) x = Opened (AtDeclarator z k) from (λ ps. pieces_declarator d (token (g.mark g.LParen) ∷ ps)) x
+AtDeclaratorMode z (after_star node qs k) x = Opened (AtDeclarator z k) node.from (λ ps. token (g.mark g.Star) ∷ pieces_all pieces_word qs ps) x
+AtDeclaratorMode z (declarator_opened node k) x = Opened (AtDeclarator z k) node.from (λ ps. token (g.mark g.LParen) ∷ ps) x
+AtDeclaratorMode z (after_declarator had k d) x = Opened (AtDeclarator z k) had.from (pieces_declarator d) x
+AtDeclaratorMode z (array_opened node d k) x = Opened (AtDeclarator z k) node.from (λ ps. pieces_declarator d (token (g.mark g.LBracket) ∷ ps)) x
+AtDeclaratorMode z (params_opened node d k) x = Opened (AtDeclarator z k) node.from (λ ps. pieces_declarator d (token (g.mark g.LParen) ∷ ps)) x
 
 abbrev pub AtExprMode : Spot → ExprMode → Spot → Type 0
 AtExprMode z (want_expr k) x = AtExpr z k x
-AtExprMode z (after_expr from k a) x = Opened (AtExpr z k) from (pieces a) x
+AtExprMode z (after_expr had k a) x = Opened (AtExpr z k) had.from (pieces a) x
 AtExprMode z (after_text from k ns) x = Opened (AtExpr z k) from (pieces_all pieces_text ns) x
-AtExprMode z (opened from k) x = Opened (AtExpr z k) from (λ ps. token (g.mark g.LParen) ∷ ps) x
-AtExprMode z (after_sizeof from k) x = Opened (AtExpr z k) from (λ ps. token (g.word g.KSizeof) ∷ ps) x
-AtExprMode z (sizeof_opened from p_from k) x = Opened (Opened (AtExpr z k) from (λ ps. token (g.word g.KSizeof) ∷ ps)) p_from (λ ps. token (g.mark g.LParen) ∷ ps) x
-AtExprMode z (args_opened from f k) x = Opened (AtExpr z k) from (λ ps. pieces f (token (g.mark g.LParen) ∷ ps)) x
-AtExprMode z (after_builtin from k) x = Opened (AtExpr z k) from (λ ps. token (g.word g.KBuiltin) ∷ ps) x
-AtExprMode z (want_member from a c k) x = Opened (AtExpr z k) from (λ ps. pieces a (token (g.mark (member_mark c)) ∷ ps)) x
+AtExprMode z (opened node k) x = Opened (AtExpr z k) node.from (λ ps. token (g.mark g.LParen) ∷ ps) x
+AtExprMode z (after_sizeof node k) x = Opened (AtExpr z k) node.from (λ ps. token (g.word g.KSizeof) ∷ ps) x
+AtExprMode z (sizeof_opened node p_from k) x = Opened (Opened (AtExpr z k) node.from (λ ps. token (g.word g.KSizeof) ∷ ps)) p_from (λ ps. token (g.mark g.LParen) ∷ ps) x
+AtExprMode z (args_opened node f k) x = Opened (AtExpr z k) node.from (λ ps. pieces f (token (g.mark g.LParen) ∷ ps)) x
+AtExprMode z (after_builtin node k) x = Opened (AtExpr z k) node.from (λ ps. token (g.word g.KBuiltin) ∷ ps) x
+AtExprMode z (want_member node a c k) x = Opened (AtExpr z k) node.from (λ ps. pieces a (token (g.mark (member_mark c)) ∷ ps)) x
 
 abbrev pub pieces_unended : Unended → List Piece → List Piece
 pieces_unended broken ps = token (g.word g.KBreak) ∷ ps
@@ -188,23 +188,23 @@ pieces_unended (done_while a c) ps = token (g.word g.KDo) ∷ pieces_stmt a (tok
 
 abbrev pub AtStmtMode : Spot → StmtMode → Spot → Type 0
 AtStmtMode z (want_stmt k) x = AtStmt z k x
-AtStmtMode z (after_stmt k a) x = Then (AtStmt z k) (pieces_stmt a) x
-AtStmtMode z (want_paren from c k) x = Opened (AtStmt z k) from (pieces_condition c) x
-AtStmtMode z (after_for from k) x = Opened (AtStmt z k) from (λ ps. token (g.word g.KFor) ∷ ps) x
-AtStmtMode z (for_opened from k) x = Opened (AtStmt z k) from (λ ps. token (g.word g.KFor) ∷ token (g.mark g.LParen) ∷ ps) x
-AtStmtMode z (want_condition from f k) x = Opened (AtStmt z k) from (pieces_part (for_condition f)) x
-AtStmtMode z (want_step from f c k) x = Opened (AtStmt z k) from (pieces_part (for_step f c)) x
-AtStmtMode z (want_semi from a k) x = Opened (AtStmt z k) from (pieces_unended a) x
-AtStmtMode z (after_return from k) x = Opened (AtStmt z k) from (λ ps. token (g.word g.KReturn) ∷ ps) x
+AtStmtMode z (after_stmt deep k a) x = Then (AtStmt z k) (pieces_stmt a) x
+AtStmtMode z (want_paren node c k) x = Opened (AtStmt z k) node.from (pieces_condition c) x
+AtStmtMode z (after_for node k) x = Opened (AtStmt z k) node.from (λ ps. token (g.word g.KFor) ∷ ps) x
+AtStmtMode z (for_opened node k) x = Opened (AtStmt z k) node.from (λ ps. token (g.word g.KFor) ∷ token (g.mark g.LParen) ∷ ps) x
+AtStmtMode z (want_condition node f k) x = Opened (AtStmt z k) node.from (pieces_part (for_condition f)) x
+AtStmtMode z (want_step node f c k) x = Opened (AtStmt z k) node.from (pieces_part (for_step f c)) x
+AtStmtMode z (want_semi node a k) x = Opened (AtStmt z k) node.from (pieces_unended a) x
+AtStmtMode z (after_return node k) x = Opened (AtStmt z k) node.from (λ ps. token (g.word g.KReturn) ∷ ps) x
 
 abbrev pub At : Spot → Mode → Spot → Type 0
-At z (want_external done) x = AtUnit z done x
-At z (in_attribute from c a) x = AtAttributeMode z from a c x
+At z (want_external deep done) x = AtUnit z done x
+At z (in_attribute node c a) x = AtAttributeMode z node.from a c x
 At z (specs c) x = AtSpecsMode z c x
 At z (declarator c) x = AtDeclaratorMode z c x
 At z (after_attributes v) x = AtItemRead z v x
 At z (want_init k) x = AtInit z k x
-At z (after_init k v) x = Then (AtInit z k) (pieces_init v) x
+At z (after_init deep k v) x = Then (AtInit z k) (pieces_init v) x
 At z (expr c) x = AtExprMode z c x
 At z (stmt c) x = AtStmtMode z c x
 

@@ -13,7 +13,8 @@ use Rattle.c_reader.specs.Symbol as t
 use Rattle.c_reader.specs.Symbol.{Symbol, Operator, Member, member_mark}
 use Rattle.c_reader.specs.Begin.{begins_specs}
 use Rattle.c_reader.specs.Exprs.{tight, needs}
-use Rattle.c_reader.specs.MarkedParts.{mark, exprs_of}
+use Rattle.c_reader.specs.MarkedParts as mp
+use Rattle.c_reader.specs.MarkedParts.{Open, Had, mark, with_part, whole, exprs_of}
 use Rattle.c_reader.specs.MarkedInside.{InStmt, Condition, of_if, of_while, of_do, Part, plain, returned, condition, for_first, for_condition, for_step, Operand, of_prefix, of_sizeof, of_cast, of_binary, of_assign, of_comma, of_cond, Callee, of_function, Bracket, of_paren, of_index, of_args, of_builtin, of_middle, cast_type, sizeof_type, InExpr, in_operand, in_bracket, in_stmt, in_init, in_value, in_array, InDeclarator, of_type, want_expr, after_expr, after_text, opened, after_sizeof, sizeof_opened, args_opened, after_builtin, want_member, ExprMode}
 use Rattle.c_reader.specs.MarkedBegin as rb
 use Rattle.c_reader.specs.MarkedExprs as r
@@ -29,107 +30,107 @@ AtExprIn z k from a x = Opened (AtExpr z k) from (pieces a) x
 
 -- ---- a token that takes the expression before it
 
-operator_at : (z : Spot) (n e : ℕ) (env : Env) (from : ℕ) (k : InExpr) (a : Expr) (o : Operator) (s : Span) (left : List Span)
-    → AtExprIn z k from a (spot n e (s ∷ left)) → Good z s.end left (r.take_operator n env from k a o s)
-operator_at z n e env from k a (t.binary o) s left i = with_token (g.mark (binary_mark o)) n e s left i
-operator_at z n e env from k a (t.assign o) s left i = with_token (g.mark (assign_mark o)) n e s left i
-operator_at z n e env from k a (t.step o) s left i = closed n s.end left (with_token (g.mark (step_mark o)) n e s left i)
-operator_at z n e env from k a (t.negation o) s left i = tt
-operator_at z n e env from k a t.question s left i = with_token (g.mark g.Quest) n e s left i
-operator_at z n e env from k a (t.member c) s left i = with_token (g.mark (member_mark c)) n e s left i
+operator_at : (z : Spot) (n e : ℕ) (env : Env) (had : Had) (k : InExpr) (a : Expr) (o : Operator) (s : Span) (left : List Span)
+    → AtExprIn z k had.from a (spot n e (s ∷ left)) → Good z s.end left (r.take_operator n env had k a o s)
+operator_at z n e env had k a (t.binary o) s left i = with_token (g.mark (binary_mark o)) n e s left i
+operator_at z n e env had k a (t.assign o) s left i = with_token (g.mark (assign_mark o)) n e s left i
+operator_at z n e env had k a (t.step o) s left i = closed n s.end left (with_token (g.mark (step_mark o)) n e s left i)
+operator_at z n e env had k a (t.negation o) s left i = tt
+operator_at z n e env had k a t.question s left i = with_token (g.mark g.Quest) n e s left i
+operator_at z n e env had k a (t.member c) s left i = with_token (g.mark (member_mark c)) n e s left i
 
-take_expr_at : (z : Spot) (n e : ℕ) (env : Env) (from : ℕ) (k : InExpr) (a : Expr) (y : Symbol) (s : Span) (left : List Span)
-    → AtExprIn z k from a (spot n e (s ∷ left)) → Good z s.end left (r.take_expr n env from k a y s)
-take_expr_at z n e env from k a (t.operator o) s left i = operator_at z n e env from k a o s left i
-take_expr_at z n e env from k a t.lparen s left i = with_token (g.mark g.LParen) n e s left i
-take_expr_at z n e env from k a t.lbracket s left i = with_token (g.mark g.LBracket) n e s left i
-take_expr_at z n e env from k a t.comma s left i = with_token (g.mark g.Com) n e s left i
-take_expr_at z n e env from k a _ s left i = tt
+take_expr_at : (z : Spot) (n e : ℕ) (env : Env) (had : Had) (k : InExpr) (a : Expr) (y : Symbol) (s : Span) (left : List Span)
+    → AtExprIn z k had.from a (spot n e (s ∷ left)) → Good z s.end left (r.take_expr n env had k a y s)
+take_expr_at z n e env had k a (t.operator o) s left i = operator_at z n e env had k a o s left i
+take_expr_at z n e env had k a t.lparen s left i = with_token (g.mark g.LParen) n e s left i
+take_expr_at z n e env had k a t.lbracket s left i = with_token (g.mark g.LBracket) n e s left i
+take_expr_at z n e env had k a t.comma s left i = with_token (g.mark g.Com) n e s left i
+take_expr_at z n e env had k a _ s left i = tt
 
 -- ---- a token that closes what is open
 
-paren_at : (z : Spot) (n e : ℕ) (env : Env) (from : ℕ) (k : InExpr) (a : Expr) (y : Symbol) (s : Span) (left : List Span)
-    → Opened (AtExpr z k) from (λ ps. token (g.mark g.LParen) ∷ pieces a ps) (spot n e (s ∷ left)) → Good z s.end left (r.close_paren n env from k a y s)
-paren_at z n e env from k a t.rparen s left o = closed n s.end left (with_token (g.mark g.RParen) n e s left o)
-paren_at z n e env from k a _ s left o = tt
+paren_at : (z : Spot) (n e : ℕ) (env : Env) (node : Open) (deep : ℕ) (k : InExpr) (a : Expr) (y : Symbol) (s : Span) (left : List Span)
+    → Opened (AtExpr z k) node.from (λ ps. token (g.mark g.LParen) ∷ pieces a ps) (spot n e (s ∷ left)) → Good z s.end left (r.close_paren n env node deep k a y s)
+paren_at z n e env node deep k a t.rparen s left o = closed n s.end left (with_token (g.mark g.RParen) n e s left o)
+paren_at z n e env node deep k a _ s left o = tt
 
-index_at : (z : Spot) (n e : ℕ) (env : Env) (from : ℕ) (k : InExpr) (l a : Expr) (y : Symbol) (s : Span) (left : List Span)
-    → Opened (AtExpr z k) from (λ ps. pieces l (token (g.mark g.LBracket) ∷ pieces a ps)) (spot n e (s ∷ left)) → Good z s.end left (r.close_index n env from k l a y s)
-index_at z n e env from k l a t.rbracket s left o = closed n s.end left (with_token (g.mark g.RBracket) n e s left o)
-index_at z n e env from k l a _ s left o = tt
+index_at : (z : Spot) (n e : ℕ) (env : Env) (node : Open) (deep : ℕ) (k : InExpr) (l a : Expr) (y : Symbol) (s : Span) (left : List Span)
+    → Opened (AtExpr z k) node.from (λ ps. pieces l (token (g.mark g.LBracket) ∷ pieces a ps)) (spot n e (s ∷ left)) → Good z s.end left (r.close_index n env node deep k l a y s)
+index_at z n e env node deep k l a t.rbracket s left o = closed n s.end left (with_token (g.mark g.RBracket) n e s left o)
+index_at z n e env node deep k l a _ s left o = tt
 
 call_pieces : (at : At) (c : Callee) (xs : Exprs) (ps : List Piece)
     → pieces (r.call_of at c xs) ps ≡ opens at ∷ pieces_callee c (token (g.mark g.LParen) ∷ pieces_exprs xs (token (g.mark g.RParen) ∷ closes at ∷ ps))
 call_pieces at (of_function f) xs ps = refl
 call_pieces at of_builtin xs ps = refl
 
-args_at : (z : Spot) (n e : ℕ) (env : Env) (from : ℕ) (k : InExpr) (c : Callee) (xs : List Expr) (a : Expr) (y : Symbol) (s : Span) (left : List Span)
-    → Opened (AtExpr z k) from (λ ps. pieces_callee c (token (g.mark g.LParen) ∷ pieces_done pieces xs (pieces a ps))) (spot n e (s ∷ left))
-    → Good z s.end left (r.close_args n env from k c (xs ++ a ∷ []) y s)
-args_at z n e env from k c xs a t.comma s left o =
+args_at : (z : Spot) (n e : ℕ) (env : Env) (node : Open) (k : InExpr) (c : Callee) (xs : List Expr) (a : Expr) (y : Symbol) (s : Span) (left : List Span)
+    → Opened (AtExpr z k) node.from (λ ps. pieces_callee c (token (g.mark g.LParen) ∷ pieces_done pieces xs (pieces a ps))) (spot n e (s ∷ left))
+    → Good z s.end left (r.close_args n env node k c (xs ++ a ∷ []) y s)
+args_at z n e env node k c xs a t.comma s left o =
     same_opened (λ ps. ap (λ qs. pieces_callee c (token (g.mark g.LParen) ∷ qs)) (done-last pieces xs a ps)) (with_token (g.mark g.Com) n e s left o)
-args_at z n e env from k c xs a t.rparen s left o =
-    same_opened (λ ps. let rest = token (g.mark g.RParen) ∷ closes (mark from s.end n) ∷ ps in
-    call_pieces (mark from s.end n) c (exprs_of (xs ++ a ∷ [])) ps
-    ∙ ap (λ qs. opens (mark from s.end n) ∷ pieces_callee c (token (g.mark g.LParen) ∷ qs)) (exprs-commas (xs ++ a ∷ []) rest ∙ commas-last pieces xs a rest))
+args_at z n e env node k c xs a t.rparen s left o =
+    same_opened (λ ps. let rest = token (g.mark g.RParen) ∷ closes (mark node.from s.end n) ∷ ps in
+    call_pieces (mark node.from s.end n) c (exprs_of (xs ++ a ∷ [])) ps
+    ∙ ap (λ qs. opens (mark node.from s.end n) ∷ pieces_callee c (token (g.mark g.LParen) ∷ qs)) (exprs-commas (xs ++ a ∷ []) rest ∙ commas-last pieces xs a rest))
     (closed n s.end left (with_token (g.mark g.RParen) n e s left o))
-args_at z n e env from k c xs a _ s left o = tt
+args_at z n e env node k c xs a _ s left o = tt
 
-middle_at : (z : Spot) (n e : ℕ) (env : Env) (from : ℕ) (k : InExpr) (c a : Expr) (y : Symbol) (s : Span) (left : List Span)
-    → Opened (AtExpr z k) from (λ ps. pieces c (token (g.mark g.Quest) ∷ pieces a ps)) (spot n e (s ∷ left)) → Good z s.end left (r.close_middle n env from k c a y)
-middle_at z n e env from k c a t.colon s left o = with_token (g.mark g.Colon) n e s left o
-middle_at z n e env from k c a _ s left o = tt
+middle_at : (z : Spot) (n e : ℕ) (env : Env) (node : Open) (deep : ℕ) (k : InExpr) (c a : Expr) (y : Symbol) (s : Span) (left : List Span)
+    → Opened (AtExpr z k) node.from (λ ps. pieces c (token (g.mark g.Quest) ∷ pieces a ps)) (spot n e (s ∷ left)) → Good z s.end left (r.close_middle n env node deep k c a y)
+middle_at z n e env node deep k c a t.colon s left o = with_token (g.mark g.Colon) n e s left o
+middle_at z n e env node deep k c a _ s left o = tt
 
-bracket_at : (z : Spot) (n e : ℕ) (env : Env) (from : ℕ) (o : Bracket) (k : InExpr) (a : Expr) (y : Symbol) (s : Span) (left : List Span)
-    → Opened (AtExpr z k) from (λ ps. pieces_bracket o (pieces a ps)) (spot n e (s ∷ left)) → Good z s.end left (r.close_bracket n env from o k a y s)
-bracket_at z n e env from of_paren k a y s left i = paren_at z n e env from k a y s left i
-bracket_at z n e env from (of_index l) k a y s left i = index_at z n e env from k l a y s left i
-bracket_at z n e env from (of_args c xs) k a y s left i = args_at z n e env from k c xs a y s left i
-bracket_at z n e env from (of_middle c) k a y s left i = middle_at z n e env from k c a y s left i
+bracket_at : (z : Spot) (n e : ℕ) (env : Env) (node : Open) (deep : ℕ) (o : Bracket) (k : InExpr) (a : Expr) (y : Symbol) (s : Span) (left : List Span)
+    → Opened (AtExpr z k) node.from (λ ps. pieces_bracket o (pieces a ps)) (spot n e (s ∷ left)) → Good z s.end left (r.close_bracket n env node deep o k a y s)
+bracket_at z n e env node deep of_paren k a y s left i = paren_at z n e env node deep k a y s left i
+bracket_at z n e env node deep (of_index l) k a y s left i = index_at z n e env node deep k l a y s left i
+bracket_at z n e env node deep (of_args c xs) k a y s left i = args_at z n e env (with_part node deep) k c xs a y s left i
+bracket_at z n e env node deep (of_middle c) k a y s left i = middle_at z n e env node deep k c a y s left i
 
-semi_at : (z : Spot) (n e : ℕ) (env : Env) (from : ℕ) (o : Part) (k : InStmt) (a : Expr) (s : Span) (left : List Span)
-    → Opened (AtStmt z k) from (λ ps. pieces_part o (pieces a ps)) (spot n e (s ∷ left)) → Good z s.end left (r.part_semi n env from o k a s)
-semi_at z n e env from plain k a s left i = all_of (closed n s.end left (with_token (g.mark g.Semi) n e s left i))
-semi_at z n e env from returned k a s left i = all_of (closed n s.end left (with_token (g.mark g.Semi) n e s left i))
-semi_at z n e env from (condition c) k a s left i = tt
-semi_at z n e env from for_first k a s left i = with_token (g.mark g.Semi) n e s left i
-semi_at z n e env from (for_condition f) k a s left i = with_token (g.mark g.Semi) n e s left i
-semi_at z n e env from (for_step f c) k a s left i = tt
+semi_at : (z : Spot) (n e : ℕ) (env : Env) (node : Open) (deep : ℕ) (o : Part) (k : InStmt) (a : Expr) (s : Span) (left : List Span)
+    → Opened (AtStmt z k) node.from (λ ps. pieces_part o (pieces a ps)) (spot n e (s ∷ left)) → Good z s.end left (r.part_semi n env node deep o k a s)
+semi_at z n e env node deep plain k a s left i = all_of (closed n s.end left (with_token (g.mark g.Semi) n e s left i))
+semi_at z n e env node deep returned k a s left i = all_of (closed n s.end left (with_token (g.mark g.Semi) n e s left i))
+semi_at z n e env node deep (condition c) k a s left i = tt
+semi_at z n e env node deep for_first k a s left i = with_token (g.mark g.Semi) n e s left i
+semi_at z n e env node deep (for_condition f) k a s left i = with_token (g.mark g.Semi) n e s left i
+semi_at z n e env node deep (for_step f c) k a s left i = tt
 
-condition_at : (z : Spot) (n e : ℕ) (env : Env) (from : ℕ) (c : Condition) (k : InStmt) (a : Expr) (s : Span) (left : List Span)
-    → Opened (AtStmt z k) from (λ ps. pieces_part (condition c) (pieces a ps)) (spot n e (s ∷ left)) → Good z s.end left (r.condition_done n env from c k a)
-condition_at z n e env from of_if k a s left i = with_token (g.mark g.RParen) n e s left i
-condition_at z n e env from of_while k a s left i = with_token (g.mark g.RParen) n e s left i
-condition_at z n e env from (of_do d) k a s left i = with_token (g.mark g.RParen) n e s left i
+condition_at : (z : Spot) (n e : ℕ) (env : Env) (node : Open) (c : Condition) (k : InStmt) (a : Expr) (s : Span) (left : List Span)
+    → Opened (AtStmt z k) node.from (λ ps. pieces_part (condition c) (pieces a ps)) (spot n e (s ∷ left)) → Good z s.end left (r.condition_done n env node c k a)
+condition_at z n e env node of_if k a s left i = with_token (g.mark g.RParen) n e s left i
+condition_at z n e env node of_while k a s left i = with_token (g.mark g.RParen) n e s left i
+condition_at z n e env node (of_do d) k a s left i = with_token (g.mark g.RParen) n e s left i
 
-part_paren_at : (z : Spot) (n e : ℕ) (env : Env) (from : ℕ) (o : Part) (k : InStmt) (a : Expr) (s : Span) (left : List Span)
-    → Opened (AtStmt z k) from (λ ps. pieces_part o (pieces a ps)) (spot n e (s ∷ left)) → Good z s.end left (r.part_paren n env from o k a)
-part_paren_at z n e env from plain k a s left i = tt
-part_paren_at z n e env from returned k a s left i = tt
-part_paren_at z n e env from (condition c) k a s left i = condition_at z n e env from c k a s left i
-part_paren_at z n e env from for_first k a s left i = tt
-part_paren_at z n e env from (for_condition f) k a s left i = tt
-part_paren_at z n e env from (for_step f c) k a s left i = with_token (g.mark g.RParen) n e s left i
+part_paren_at : (z : Spot) (n e : ℕ) (env : Env) (node : Open) (deep : ℕ) (o : Part) (k : InStmt) (a : Expr) (s : Span) (left : List Span)
+    → Opened (AtStmt z k) node.from (λ ps. pieces_part o (pieces a ps)) (spot n e (s ∷ left)) → Good z s.end left (r.part_paren n env node deep o k a)
+part_paren_at z n e env node deep plain k a s left i = tt
+part_paren_at z n e env node deep returned k a s left i = tt
+part_paren_at z n e env node deep (condition c) k a s left i = condition_at z n e env (with_part node deep) c k a s left i
+part_paren_at z n e env node deep for_first k a s left i = tt
+part_paren_at z n e env node deep (for_condition f) k a s left i = tt
+part_paren_at z n e env node deep (for_step f c) k a s left i = with_token (g.mark g.RParen) n e s left i
 
-part_at : (z : Spot) (n e : ℕ) (env : Env) (from : ℕ) (o : Part) (k : InStmt) (a : Expr) (y : Symbol) (s : Span) (left : List Span)
-    → Opened (AtStmt z k) from (λ ps. pieces_part o (pieces a ps)) (spot n e (s ∷ left)) → Good z s.end left (r.close_part n env from o k a y s)
-part_at z n e env from o k a t.semi s left i = semi_at z n e env from o k a s left i
-part_at z n e env from o k a t.rparen s left i = part_paren_at z n e env from o k a s left i
-part_at z n e env from o k a _ s left i = tt
+part_at : (z : Spot) (n e : ℕ) (env : Env) (node : Open) (deep : ℕ) (o : Part) (k : InStmt) (a : Expr) (y : Symbol) (s : Span) (left : List Span)
+    → Opened (AtStmt z k) node.from (λ ps. pieces_part o (pieces a ps)) (spot n e (s ∷ left)) → Good z s.end left (r.close_part n env node deep o k a y s)
+part_at z n e env node deep o k a t.semi s left i = semi_at z n e env node deep o k a s left i
+part_at z n e env node deep o k a t.rparen s left i = part_paren_at z n e env node deep o k a s left i
+part_at z n e env node deep o k a _ s left i = tt
 
-close_array_at : (z : Spot) (n e : ℕ) (env : Env) (from : ℕ) (d : Declarator) (k : InDeclarator) (a : Expr) (y : Symbol) (s : Span) (left : List Span)
-    → Opened (AtDeclarator z k) from (λ ps. pieces_declarator d (token (g.mark g.LBracket) ∷ pieces a ps)) (spot n e (s ∷ left)) → Good z s.end left (r.close_array n env from d k a y s)
-close_array_at z n e env from d k a t.rbracket s left o = closed n s.end left (with_token (g.mark g.RBracket) n e s left o)
-close_array_at z n e env from d k a _ s left o = tt
+close_array_at : (z : Spot) (n e : ℕ) (env : Env) (node : Open) (deep : ℕ) (d : Declarator) (k : InDeclarator) (a : Expr) (y : Symbol) (s : Span) (left : List Span)
+    → Opened (AtDeclarator z k) node.from (λ ps. pieces_declarator d (token (g.mark g.LBracket) ∷ pieces a ps)) (spot n e (s ∷ left)) → Good z s.end left (r.close_array n env node deep d k a y s)
+close_array_at z n e env node deep d k a t.rbracket s left o = closed n s.end left (with_token (g.mark g.RBracket) n e s left o)
+close_array_at z n e env node deep d k a _ s left o = tt
 
-close_at : (z : Spot) (n e : ℕ) (env : Env) (a_from : ℕ) (k : InExpr) (a : Expr) (y : Symbol) (s : Span) (left : List Span)
-    → AtExprIn z k a_from a (spot n e (s ∷ left)) → Good z s.end left (r.close n e env k a y s)
-close_at z n e env a_from (in_operand from o k) a y s left i = tt
-close_at z n e env a_from (in_bracket from o k) a y s left i = bracket_at z n e env from o k a y s left (joined i)
-close_at z n e env a_from (in_stmt from o k) a y s left i = part_at z n e env from o k a y s left (joined i)
-close_at z n e env a_from (in_init k) a y s left i = init_at z n e env k (u.Plain a) y s left (all_of i)
-close_at z n e env a_from (in_value from x k) a y s left i = enumerator_end_at z n e env from k x (u.some_expr a) y s left (joined i)
-close_at z n e env a_from (in_array from d k) a y s left i = close_array_at z n e env from d k a y s left (joined i)
+close_at : (z : Spot) (n e : ℕ) (env : Env) (had : Had) (k : InExpr) (a : Expr) (y : Symbol) (s : Span) (left : List Span)
+    → AtExprIn z k had.from a (spot n e (s ∷ left)) → Good z s.end left (r.close n e env had.deep k a y s)
+close_at z n e env had (in_operand node o k) a y s left i = tt
+close_at z n e env had (in_bracket node o k) a y s left i = bracket_at z n e env node had.deep o k a y s left (joined i)
+close_at z n e env had (in_stmt node o k) a y s left i = part_at z n e env node had.deep o k a y s left (joined i)
+close_at z n e env had (in_init k) a y s left i = init_at z n e env had.deep k (u.Plain a) y s left (all_of i)
+close_at z n e env had (in_value node x k) a y s left i = enumerator_end_at z n e env node had.deep k x (u.some_expr a) y s left (joined i)
+close_at z n e env had (in_array node d k) a y s left i = close_array_at z n e env node had.deep d k a y s left (joined i)
 
 -- ---- the token after an expression
 
@@ -143,94 +144,94 @@ made_pieces at (of_comma l) a ps = refl
 made_pieces at (of_cond c l) a ps = refl
 
 abbrev AtReduced : Spot → ℕ → List Span → Reduced → Type 0
-AtReduced z e left x = AtExprIn z x.place x.from x.expr (spot x.id e left)
+AtReduced z e left x = AtExprIn z x.place x.had.from x.expr (spot x.id e left)
 
-reduced_at : (k : InExpr) (z : Spot) (n e from : ℕ) (a : Expr) (p : ℕ) (left : List Span) → AtExprIn z k from a (spot n e left) → AtReduced z e left (r.reduced n e from k a p)
-reduced_at (in_operand o_from o k) z n e from a p left i =
+reduced_at : (k : InExpr) (z : Spot) (n e : ℕ) (had : Had) (a : Expr) (p : ℕ) (left : List Span) → AtExprIn z k had.from a (spot n e left) → AtReduced z e left (r.reduced n e had k a p)
+reduced_at (in_operand node o k) z n e had a p left i =
     by_test (AtReduced z e left) (nat_le (r.operand_place o) p) _ _ i
-    (reduced_at k z (suc n) e o_from (r.made (mark o_from e n) o a) p left (same_opened (made_pieces (mark o_from e n) o a) (closed n e left (joined i))))
-reduced_at (in_bracket b_from o k) z n e from a p left i = i
-reduced_at (in_stmt s_from o k) z n e from a p left i = i
-reduced_at (in_init k) z n e from a p left i = i
-reduced_at (in_value v_from x k) z n e from a p left i = i
-reduced_at (in_array d_from d k) z n e from a p left i = i
+    (reduced_at k z (suc n) e (mp.closed node had.deep) (r.made (mark node.from e n) o a) p left (same_opened (made_pieces (mark node.from e n) o a) (closed n e left (joined i))))
+reduced_at (in_bracket node o k) z n e had a p left i = i
+reduced_at (in_stmt node o k) z n e had a p left i = i
+reduced_at (in_init k) z n e had a p left i = i
+reduced_at (in_value node x k) z n e had a p left i = i
+reduced_at (in_array node d k) z n e had a p left i = i
 
-take_at : (z : Spot) (n e : ℕ) (env : Env) (from : ℕ) (k : InExpr) (a : Expr) (y : Symbol) (s : Span) (left : List Span)
-    → AtExprIn z k from a (spot n e (s ∷ left)) → Good z s.end left (r.take n env from k a y s)
-take_at z n e env from k a y s left i =
-    by_test (Good z s.end left) (nat_le (needs y) (level (bare a))) (r.take_expr n env from k a y s) None (take_expr_at z n e env from k a y s left i) tt
+take_at : (z : Spot) (n e : ℕ) (env : Env) (had : Had) (k : InExpr) (a : Expr) (y : Symbol) (s : Span) (left : List Span)
+    → AtExprIn z k had.from a (spot n e (s ∷ left)) → Good z s.end left (r.take n env had k a y s)
+take_at z n e env had k a y s left i =
+    by_test (Good z s.end left) (nat_le (needs y) (level (bare a))) (r.take_expr n env had k a y s) None (take_expr_at z n e env had k a y s left i) tt
 
 next_at : (z : Spot) (e : ℕ) (env : Env) (x : Reduced) (y : Symbol) (s : Span) (left : List Span) → AtReduced z e (s ∷ left) x → Good z s.end left (r.next e env x y s)
 next_at z e env x y s left i =
-    by_test (Good z s.end left) (nat_le (r.place x.place) (tight y)) (r.take x.id env x.from x.place x.expr y s) (r.close x.id e env x.place x.expr y s)
-    (take_at z x.id e env x.from x.place x.expr y s left i)
-    (close_at z x.id e env x.from x.place x.expr y s left i)
+    by_test (Good z s.end left) (nat_le (r.place x.place) (tight y)) (r.take x.id env x.had x.place x.expr y s) (r.close x.id e env x.had.deep x.place x.expr y s)
+    (take_at z x.id e env x.had x.place x.expr y s left i)
+    (close_at z x.id e env x.had x.place x.expr y s left i)
 
-pub after_at : (z : Spot) (n e : ℕ) (env : Env) (from : ℕ) (k : InExpr) (a : Expr) (y : Symbol) (s : Span) (left : List Span)
-    → AtExprIn z k from a (spot n e (s ∷ left)) → Good z s.end left (r.after n e env from k a y s)
-after_at z n e env from k a y s left i = next_at z e env (r.reduced n e from k a (tight y)) y s left (reduced_at k z n e from a (tight y) (s ∷ left) i)
+pub after_at : (z : Spot) (n e : ℕ) (env : Env) (had : Had) (k : InExpr) (a : Expr) (y : Symbol) (s : Span) (left : List Span)
+    → AtExprIn z k had.from a (spot n e (s ∷ left)) → Good z s.end left (r.after n e env had k a y s)
+after_at z n e env had k a y s left i = next_at z e env (r.reduced n e had k a (tight y)) y s left (reduced_at k z n e had a (tight y) (s ∷ left) i)
 
 -- ---- the other places in an expression
 
 text_at : (z : Spot) (n e : ℕ) (env : Env) (from : ℕ) (k : InExpr) (xs : List (List ℕ)) (y : Symbol) (s : Span) (left : List Span)
     → Opened (AtExpr z k) from (pieces_all pieces_text xs) (spot n e (s ∷ left)) → Good z s.end left (r.text_next n e env from k xs y s)
 text_at z n e env from k xs (t.text x) s left o = same_opened (all-last pieces_text xs x) (with_token (g.text x) n e s left o)
-text_at z n e env from k xs y s left o = after_at z (suc n) e env from k (u.Text (mark from e n) xs) y s left (closed n e (s ∷ left) o)
+text_at z n e env from k xs y s left o = after_at z (suc n) e env (mp.leaf from) k (u.Text (mark from e n) xs) y s left (closed n e (s ∷ left) o)
 
-cast_at : (z : Spot) (n e : ℕ) (env : Env) (from : ℕ) (k : InExpr) (y : Symbol) (s : Span) (left : List Span)
-    → Opened (AtExpr z k) from (λ ps. token (g.mark g.LParen) ∷ ps) (spot n e (s ∷ left)) → Good z s.end left (r.open_cast n env from k y s)
-cast_at z n e env from k y s left o =
-    by_test (Good z s.end left) (nat_le (r.place k) 14) (rb.begin_specs n env (of_type from cast_type k) y s) None (begin_specs_at z n e env (of_type from cast_type k) y s left o) tt
+cast_at : (z : Spot) (n e : ℕ) (env : Env) (node : Open) (k : InExpr) (y : Symbol) (s : Span) (left : List Span)
+    → Opened (AtExpr z k) node.from (λ ps. token (g.mark g.LParen) ∷ ps) (spot n e (s ∷ left)) → Good z s.end left (r.open_cast n env node k y s)
+cast_at z n e env node k y s left o =
+    by_test (Good z s.end left) (nat_le (r.place k) 14) (rb.begin_specs n env (of_type node cast_type k) y s) None (begin_specs_at z n e env (of_type node cast_type k) y s left o) tt
 
-opened_at : (z : Spot) (n e : ℕ) (env : Env) (from : ℕ) (k : InExpr) (y : Symbol) (s : Span) (left : List Span)
-    → Opened (AtExpr z k) from (λ ps. token (g.mark g.LParen) ∷ ps) (spot n e (s ∷ left)) → Good z s.end left (r.paren_next n env from k y s)
-opened_at z n e env from k y s left o =
-    by_test (Good z s.end left) (begins_specs env false y) (r.open_cast n env from k y s) (rb.want n env (in_bracket from of_paren k) y s)
-    (cast_at z n e env from k y s left o)
-    (want_at z n e env (in_bracket from of_paren k) y s left o)
+opened_at : (z : Spot) (n e : ℕ) (env : Env) (node : Open) (k : InExpr) (y : Symbol) (s : Span) (left : List Span)
+    → Opened (AtExpr z k) node.from (λ ps. token (g.mark g.LParen) ∷ ps) (spot n e (s ∷ left)) → Good z s.end left (r.paren_next n env node k y s)
+opened_at z n e env node k y s left o =
+    by_test (Good z s.end left) (begins_specs env false y) (r.open_cast n env node k y s) (rb.want n env (in_bracket node of_paren k) y s)
+    (cast_at z n e env node k y s left o)
+    (want_at z n e env (in_bracket node of_paren k) y s left o)
 
-sizeof_opened_at : (z : Spot) (n e : ℕ) (env : Env) (from p_from : ℕ) (k : InExpr) (y : Symbol) (s : Span) (left : List Span)
-    → AtExprMode z (sizeof_opened from p_from k) (spot n e (s ∷ left)) → Good z s.end left (r.sizeof_paren_next n env from p_from k y s)
-sizeof_opened_at z n e env from p_from k y s left o =
+sizeof_opened_at : (z : Spot) (n e : ℕ) (env : Env) (node : Open) (p_from : ℕ) (k : InExpr) (y : Symbol) (s : Span) (left : List Span)
+    → AtExprMode z (sizeof_opened node p_from k) (spot n e (s ∷ left)) → Good z s.end left (r.sizeof_paren_next n env node p_from k y s)
+sizeof_opened_at z n e env node p_from k y s left o =
     by_test (Good z s.end left) (begins_specs env false y)
-    (rb.begin_specs n env (of_type from sizeof_type k) y s) (rb.want n env (in_bracket p_from of_paren (in_operand from of_sizeof k)) y s)
-    (begin_specs_at z n e env (of_type from sizeof_type k) y s left (joined o))
-    (want_at z n e env (in_bracket p_from of_paren (in_operand from of_sizeof k)) y s left o)
+    (rb.begin_specs n env (of_type node sizeof_type k) y s) (rb.want n env (in_bracket (mp.opens node.level p_from) of_paren (in_operand node of_sizeof k)) y s)
+    (begin_specs_at z n e env (of_type node sizeof_type k) y s left (joined o))
+    (want_at z n e env (in_bracket (mp.opens node.level p_from) of_paren (in_operand node of_sizeof k)) y s left o)
 
-sizeof_at : (z : Spot) (n e : ℕ) (env : Env) (from : ℕ) (k : InExpr) (y : Symbol) (s : Span) (left : List Span)
-    → AtExpr z (in_operand from of_sizeof k) (spot n e (s ∷ left)) → Good z s.end left (r.sizeof_next n env from k y s)
-sizeof_at z n e env from k t.lparen s left o = begun (AtExpr z (in_operand from of_sizeof k)) (g.mark g.LParen) n e s left o
-sizeof_at z n e env from k y s left o = want_at z n e env (in_operand from of_sizeof k) y s left o
+sizeof_at : (z : Spot) (n e : ℕ) (env : Env) (node : Open) (k : InExpr) (y : Symbol) (s : Span) (left : List Span)
+    → AtExpr z (in_operand node of_sizeof k) (spot n e (s ∷ left)) → Good z s.end left (r.sizeof_next n env node k y s)
+sizeof_at z n e env node k t.lparen s left o = begun (AtExpr z (in_operand node of_sizeof k)) (g.mark g.LParen) n e s left o
+sizeof_at z n e env node k y s left o = want_at z n e env (in_operand node of_sizeof k) y s left o
 
-args_begin_at : (z : Spot) (n e : ℕ) (env : Env) (from : ℕ) (f : Expr) (k : InExpr) (y : Symbol) (s : Span) (left : List Span)
-    → AtExprMode z (args_opened from f k) (spot n e (s ∷ left)) → Good z s.end left (r.args_begin n env from f k y s)
-args_begin_at z n e env from f k t.rparen s left o = closed n s.end left (with_token (g.mark g.RParen) n e s left o)
-args_begin_at z n e env from f k y s left o = want_at z n e env (in_bracket from (of_args (of_function f) []) k) y s left o
+args_begin_at : (z : Spot) (n e : ℕ) (env : Env) (node : Open) (f : Expr) (k : InExpr) (y : Symbol) (s : Span) (left : List Span)
+    → AtExprMode z (args_opened node f k) (spot n e (s ∷ left)) → Good z s.end left (r.args_begin n env node f k y s)
+args_begin_at z n e env node f k t.rparen s left o = closed n s.end left (with_token (g.mark g.RParen) n e s left o)
+args_begin_at z n e env node f k y s left o = want_at z n e env (in_bracket node (of_args (of_function f) []) k) y s left o
 
-builtin_at : (z : Spot) (n e : ℕ) (env : Env) (from : ℕ) (k : InExpr) (y : Symbol) (s : Span) (left : List Span)
-    → AtExprMode z (after_builtin from k) (spot n e (s ∷ left)) → Good z s.end left (r.builtin_next n env from k y)
-builtin_at z n e env from k t.lparen s left o = with_token (g.mark g.LParen) n e s left o
-builtin_at z n e env from k _ s left o = tt
+builtin_at : (z : Spot) (n e : ℕ) (env : Env) (node : Open) (k : InExpr) (y : Symbol) (s : Span) (left : List Span)
+    → AtExprMode z (after_builtin node k) (spot n e (s ∷ left)) → Good z s.end left (r.builtin_next n env node k y)
+builtin_at z n e env node k t.lparen s left o = with_token (g.mark g.LParen) n e s left o
+builtin_at z n e env node k _ s left o = tt
 
 member_pieces : (at : At) (c : Member) (a : Expr) (x : List ℕ) (ps : List Piece)
     → pieces (r.member_of at c a x) ps ≡ opens at ∷ pieces a (token (g.mark (member_mark c)) ∷ token (g.name x) ∷ closes at ∷ ps)
 member_pieces at t.Dot a x ps = refl
 member_pieces at t.Arrow a x ps = refl
 
-member_at : (z : Spot) (n e : ℕ) (env : Env) (from : ℕ) (a : Expr) (c : Member) (k : InExpr) (y : Symbol) (s : Span) (left : List Span)
-    → AtExprMode z (want_member from a c k) (spot n e (s ∷ left)) → Good z s.end left (r.member_next n env from a c k y s)
-member_at z n e env from a c k (t.name x) s left o =
-    same_opened (member_pieces (mark from s.end n) c a x) (closed n s.end left (with_token (g.name x) n e s left o))
-member_at z n e env from a c k _ s left o = tt
+member_at : (z : Spot) (n e : ℕ) (env : Env) (node : Open) (a : Expr) (c : Member) (k : InExpr) (y : Symbol) (s : Span) (left : List Span)
+    → AtExprMode z (want_member node a c k) (spot n e (s ∷ left)) → Good z s.end left (r.member_next n env node a c k y s)
+member_at z n e env node a c k (t.name x) s left o =
+    same_opened (member_pieces (mark node.from s.end n) c a x) (closed n s.end left (with_token (g.name x) n e s left o))
+member_at z n e env node a c k _ s left o = tt
 
 pub expr_at : (z : Spot) (n e : ℕ) (env : Env) (c : ExprMode) (y : Symbol) (s : Span) (left : List Span)
     → AtExprMode z c (spot n e (s ∷ left)) → Good z s.end left (r.expr_next n e env c y s)
 expr_at z n e env (want_expr k) y s left o = want_at z n e env k y s left o
-expr_at z n e env (after_expr from k a) y s left o = after_at z n e env from k a y s left o
+expr_at z n e env (after_expr had k a) y s left o = after_at z n e env had k a y s left o
 expr_at z n e env (after_text from k xs) y s left o = text_at z n e env from k xs y s left o
-expr_at z n e env (opened from k) y s left o = opened_at z n e env from k y s left o
-expr_at z n e env (after_sizeof from k) y s left o = sizeof_at z n e env from k y s left o
-expr_at z n e env (sizeof_opened from p_from k) y s left o = sizeof_opened_at z n e env from p_from k y s left o
-expr_at z n e env (args_opened from f k) y s left o = args_begin_at z n e env from f k y s left o
-expr_at z n e env (after_builtin from k) y s left o = builtin_at z n e env from k y s left o
-expr_at z n e env (want_member from a c k) y s left o = member_at z n e env from a c k y s left o
+expr_at z n e env (opened node k) y s left o = opened_at z n e env node k y s left o
+expr_at z n e env (after_sizeof node k) y s left o = sizeof_at z n e env node k y s left o
+expr_at z n e env (sizeof_opened node p_from k) y s left o = sizeof_opened_at z n e env node p_from k y s left o
+expr_at z n e env (args_opened node f k) y s left o = args_begin_at z n e env node f k y s left o
+expr_at z n e env (after_builtin node k) y s left o = builtin_at z n e env node k y s left o
+expr_at z n e env (want_member node a c k) y s left o = member_at z n e env node a c k y s left o

@@ -1,16 +1,18 @@
 -- Texts on which the numbers and places are computed. Their tokens stand apart by one space.
-use Rattle.std.specs.Prelude.{◌≡◌, ℕ, suc, nat_le, if◌then◌else◌, List, [], ◌∷◌, ◌++◌, codes}
+use Rattle.std.specs.Prelude.{◌≡◌, ℕ, zero, suc, nat_le, if◌then◌else◌, List, [], ◌∷◌, ◌++◌, length, replicate, Option, Some, None, codes}
 use Rattle.tok_base.specs.declared.token.Span.{Span}
 use Rattle.tok_base.specs.declared.token.Token.{Token}
 use Rattle.c_tree.specs.declared.operator.At.{At}
 use Rattle.c_tree.specs.Tok as g
 use Rattle.c_tree.specs.Tok.{Tok}
 use Rattle.c_tree.specs.Lexeme.{lexeme}
+use Rattle.c_tree.specs.Bare.{bare_unit}
+use Rattle.c_tree.specs.Depth.{unit_depth}
 use Rattle.c_tree.specs.Pieces.{Piece, token, opens, closes, absent, pieces_unit}
 use Rattle.c_tree.specs.Examples as c
 use Rattle.c_reader.specs.Examples as e
 use Rattle.c_reader.specs.MarkedParts.{mark}
-use Rattle.c_reader.specs.Reader.{Answer, unit, wrong, read}
+use Rattle.c_reader.specs.Reader.{Answer, unit, wrong, deep, read}
 
 abbrev pub token_at : ℕ → ℕ → Tok → Token
 token_at from to t = record { kind = (lexeme t).kind; span = record { start = from; end = to }; text = (lexeme t).text }
@@ -38,6 +40,7 @@ nodes_of (absent at ∷ ps) = at ∷ nodes_of ps
 abbrev pub nodes : Answer → List At
 nodes (unit u) = nodes_of (pieces_unit u [])
 nodes (wrong xs) = []
+nodes (deep xs) = []
 
 -- from one byte to another
 pub record Stretch : Type 0 where
@@ -98,3 +101,44 @@ ExpressionsHaveNodes =
 -- the token that no step takes, and those after it
 abbrev pub StopsThere : Type 0
 StopsThere = read (tokens (codes "int a = 1 }")) ≡ wrong (token_at 10 11 (g.mark g.RBrace) ∷ [])
+
+-- ---- depth
+
+-- the depth of the unit that is read
+abbrev pub depth_of : Answer → Option ℕ
+depth_of (unit u) = Some (unit_depth (bare_unit u))
+depth_of (wrong xs) = None
+depth_of (deep xs) = None
+
+-- how many tokens are left where they are too deep
+abbrev pub left_of : Answer → Option ℕ
+left_of (unit u) = None
+left_of (wrong xs) = None
+left_of (deep xs) = Some (length xs)
+
+-- int x = ( .. ( 1 ) .. ) ;
+abbrev pub nested : ℕ → List Token
+nested n = tokens_at 0 0 (e.tokens (codes "int x =") ++ replicate n (g.mark g.LParen) ++ g.number (codes "1") ∷ replicate n (g.mark g.RParen) ++ g.mark g.Semi ∷ [])
+
+-- these tokens, and then those 300 times
+abbrev pub many : ℕ → List Tok → List Tok
+many zero ts = []
+many (suc n) ts = ts ++ many n ts
+
+abbrev pub and_300 : List ℕ → List ℕ → List Token
+and_300 a b = tokens_at 0 0 (e.tokens a ++ many 300 (e.tokens b))
+
+-- 200 nodes may hold a token, but no more: those of the declaration, of its item, of the parentheses and of the number
+abbrev pub DepthIsCounted : Type 0
+DepthIsCounted = (depth_of (read (nested 197)) ≡ Some 200) × (left_of (read (nested 198)) ≡ Some 199)
+
+-- what would be too deep is refused at the first token that makes it so
+abbrev pub DeepTextsStop : Type 0
+DeepTextsStop =
+    (left_of (read (and_300 (codes "int x =") (codes "("))) ≡ Some 101)
+    × (left_of (read (and_300 (codes "int x =") (codes "-"))) ≡ Some 101)
+    × (left_of (read (and_300 (codes "int x =") (codes "( int )"))) ≡ Some 307)
+    × (left_of (read (and_300 (codes "int x = 1") (codes "+ 1"))) ≡ Some 205)
+    × (left_of (read (and_300 (codes "int x = y") (codes "= y"))) ≡ Some 205)
+    × (left_of (read (and_300 (codes "int") (codes "*"))) ≡ Some 100)
+    × (left_of (read (and_300 (codes "int f ( void )") (codes "{"))) ≡ Some 100)

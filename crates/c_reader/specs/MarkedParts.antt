@@ -1,5 +1,5 @@
--- Parts of the tree that were read, with their places and numbers, in lists that grow at their end.
-use Rattle.std.specs.Prelude.{ℕ, Bool, true, false, ◌||◌, List, [], ◌∷◌, ◌++◌, Option}
+-- Parts of the tree that were read, with their places, numbers and depths, in lists that grow at their end.
+use Rattle.std.specs.Prelude.{ℕ, suc, ◌+◌, max, Bool, true, false, ◌||◌, List, [], ◌∷◌, ◌++◌, Option}
 use Rattle.c_tree.specs.declared.operator.At.{At}
 use Rattle.c_tree.specs.Tok.{Word}
 use Rattle.c_tree.specs.Marked as u
@@ -10,6 +10,52 @@ use Rattle.c_reader.specs.Parts.{is_typedef}
 -- the node with this number from one byte to another
 abbrev pub mark : ℕ → ℕ → ℕ → At
 mark from to n = record { span = record { start = from; end = to }; id = n }
+
+-- ---- depths
+
+-- a node that is open: where it begins, how many nodes hold what stands in it, itself included, and the greatest depth of its parts so far
+pub record Open : Type 0 where
+  pub from : ℕ
+  pub level : ℕ
+  pub deep : ℕ
+
+-- a part that was read: where it begins, and its depth
+pub record Had : Type 0 where
+  pub from : ℕ
+  pub deep : ℕ
+
+-- a node that begins at this byte, where so many nodes are open
+abbrev pub opens : ℕ → ℕ → Open
+opens level from = record { from = from; level = suc level; deep = 0 }
+
+-- a node whose first part was read
+abbrev pub takes : ℕ → Had → Open
+takes level h = record { from = h.from; level = suc level; deep = h.deep }
+
+-- a part of depth d more
+abbrev pub with_part : Open → ℕ → Open
+with_part o d = record { from = o.from; level = o.level; deep = max o.deep d }
+
+-- the depth of the whole node, where its last part has depth d
+abbrev pub whole : Open → ℕ → ℕ
+whole o d = suc (max o.deep d)
+
+abbrev pub closed : Open → ℕ → Had
+closed o d = record { from = o.from; deep = whole o d }
+
+-- a node of one token
+abbrev pub leaf : ℕ → Had
+leaf from = record { from = from; deep = 1 }
+
+-- a node around this part, which has no other
+abbrev pub over : Had → Had
+over h = record { from = h.from; deep = suc h.deep }
+
+-- no unit that has this node, with its parts so far, is less deep
+abbrev pub reach : Open → ℕ
+reach o = o.level + o.deep
+
+-- ---- parts
 
 pub data Spec : Type 0 where
   keyword : Word → Spec
@@ -94,22 +140,22 @@ argument_of at (text_read vs) = u.TextArgument at vs
 
 -- ---- specs so far
 
--- where they begin, whether a type specifier is among them, and whether they make typedef names
+-- the node that they begin, whether a type specifier is among them, and whether they make typedef names
 pub record SpecsRead : Type 0 where
-  pub from : ℕ
+  pub node : Open
   pub specs : List Spec
   pub seen : Bool
   pub typedef : Bool
 
-abbrev pub no_specs : ℕ → SpecsRead
-no_specs from = record { from = from; specs = []; seen = false; typedef = false }
+abbrev pub no_specs : Open → SpecsRead
+no_specs o = record { node = o; specs = []; seen = false; typedef = false }
 
 abbrev pub add_keyword : SpecsRead → Word → SpecsRead
-add_keyword ss w = record { from = ss.from; specs = ss.specs ++ keyword w ∷ []; seen = ss.seen || is_specifier w; typedef = ss.typedef || is_typedef w }
+add_keyword ss w = record { node = ss.node; specs = ss.specs ++ keyword w ∷ []; seen = ss.seen || is_specifier w; typedef = ss.typedef || is_typedef w }
 
--- a typedef name, a record or an enum
-abbrev pub add_type : SpecsRead → Spec → SpecsRead
-add_type ss x = record { from = ss.from; specs = ss.specs ++ x ∷ []; seen = true; typedef = ss.typedef }
+-- a typedef name, a record or an enum, of depth d
+abbrev pub add_type : SpecsRead → ℕ → Spec → SpecsRead
+add_type ss d x = record { node = with_part ss.node d; specs = ss.specs ++ x ∷ []; seen = true; typedef = ss.typedef }
 
-abbrev pub add_attribute : SpecsRead → Attribute → SpecsRead
-add_attribute ss a = record { from = ss.from; specs = ss.specs ++ attribute a ∷ []; seen = ss.seen; typedef = ss.typedef }
+abbrev pub add_attribute : SpecsRead → ℕ → Attribute → SpecsRead
+add_attribute ss d a = record { node = with_part ss.node d; specs = ss.specs ++ attribute a ∷ []; seen = ss.seen; typedef = ss.typedef }

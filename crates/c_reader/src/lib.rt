@@ -4,9 +4,10 @@
 //! the tokens spell, or the place where they go wrong (`reading_law`), and the least depth of a unit that begins
 //! with the tokens is told by what is open (`depth_law`).
 //!
-//! And the same machine over trees with places and numbers (specs/Reader.antt): without them it is the machine
-//! (`erased_law`), and the nodes of a unit that it answers have the places and numbers that they should have
-//! (`marked_law`). Both together: what the reader answers about tokens of C (`answer_law`).
+//! And the same machine over trees with places and numbers (specs/Reader.antt), which also counts depth and stops
+//! where no flat unit begins with the tokens: without them it is the machine (`erased_law`), and the nodes of a unit
+//! that it answers have the places and numbers that they should have (`marked_law`). Both together: what the reader
+//! answers about tokens of C (`answer_law`).
 #![tactic(auto)]
 
 mod places;

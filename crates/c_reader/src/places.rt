@@ -1,6 +1,6 @@
 //! Laws of the machine over trees with places and numbers: empty functions whose contracts state them.
 
-ghost use Rattle.c_reader.specs.MarkedExamples.{DeclarationsHaveNodes, DeclaredSo, ExpressionsHaveNodes, StatementsHaveNodes, StopsThere};
+ghost use Rattle.c_reader.specs.MarkedExamples.{DeclarationsHaveNodes, DeclaredSo, DeepTextsStop, DepthIsCounted, ExpressionsHaveNodes, StatementsHaveNodes, StopsThere};
 ghost use Rattle.c_reader.specs.MarkedLaws.{IsMachine, IsMarked, TokensAreRead, TokensAreToks, UnitsAreAnswered};
 
 /// The machine with places and numbers, computed on texts whose places were worked out by hand.
@@ -10,6 +10,8 @@ pub fn some_places()
     ensures declarations { DeclarationsHaveNodes }
     ensures expressions { ExpressionsHaveNodes }
     ensures stops { StopsThere }
+    ensures depth { DepthIsCounted }
+    ensures deep { DeepTextsStop }
 {}
 
 /// Without places and numbers the reader's answer is the machine's, of the same tokens.
@@ -23,7 +25,7 @@ pub fn marked_law()
     ensures { IsMarked }
 {}
 
-/// The reader's answer about tokens of C: the unit that they spell, with the numbers and places of its nodes, or the place where they go wrong.
+/// The reader's answer about tokens of C: the flat unit that they spell, with the numbers and places of its nodes, or the place where they go wrong, or that they are too deep.
 pub fn answer_law()
     ensures right { TokensAreRead }
     ensures units { UnitsAreAnswered }

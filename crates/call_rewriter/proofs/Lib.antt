@@ -1,0 +1,10 @@
+pub mod Depths
+pub mod Entering
+pub mod Formed
+pub mod Forms
+pub mod Heads
+pub mod Numbering
+pub mod Quiet
+pub mod Shapes
+pub mod Unchanged
+pub mod Worked
