@@ -4,30 +4,28 @@ use Rattle.std.specs.Prelude.{◌==◌}
 use Rattle.std.proofs.lemmas.Bool.Decides.{nat_tests}
 use Rattle.std.proofs.lemmas.List.{append-nil}
 use Rattle.tok_base.specs.Status.{code_of}
-use Rattle.c_parser.specs.Small.{IsSmall}
 use Rattle.std.specs.Io.KnownBytes.{Appends}
 use Rattle.tok_base.specs.Fault.{Rose}
 use Rattle.tok_base.specs.Files.{Contents, Tally}
 use Rattle.tok_base.specs.declared.status.Status.{Status}
-use Rattle.tok_base.specs.declared.status.Status.TheVariants.{Done, Usage, FileFault, WriteFault, NoMemory, NotBuilt}
+use Rattle.tok_base.specs.declared.status.Status.TheVariants.{Done, Usage, FileFault, WriteFault, TooLong, Lex, Syntax, NoMemory, TooDeep}
+use Rattle.tok_base.specs.declared.status.Which.{Which}
+use Rattle.tok_base.specs.declared.status.Which.TheVariants as which
+use Rattle.c_lexer.specs.Cut.{IsBad}
 use Rattle.c_tree.specs.Tree.{External}
+use Rattle.c_tree.specs.Depth.{IsFlat}
 use Rattle.c_tree.specs.Printed.{unit_text}
-use Rattle.c_tree.proofs.Valid.{text_lexes}
-use Rattle.c_parser.proofs.Formed.{small_wf}
+use Rattle.call_rewriter.specs.Tagged.{tagged}
+use Rattle.call_rewriter.proofs.Formed.{reads_again, stays_formed}
+use Rattle.call_rewriter.proofs.Depths.{stays_flat}
 use Rattle.alloctoken.specs.declared.options.Options.{Options}
 use Rattle.alloctoken.specs.Options.{options_of}
-use Rattle.alloctoken.specs.Tagged.{tagged}
 use Rattle.alloctoken.specs.Course as c
-use Rattle.alloctoken.specs.Course.{Reads, IsTooLong, ReadsNone, Course, writes, refuses, Comes, line_of, Written, Change, Holds, Fails, Writes, Stays, Ends, Runs, Due, IsDue, ReadsBack}
+use Rattle.alloctoken.specs.Course.{Reads, HasText, IsTooLong, GoesTooDeep, GoesWrongAt, NamesTooLong, NamesText, Course, writes, refuses, TextComes, Comes, line_of, Written, Change, Holds, Fails, Writes, Stays, Ends, Runs, Due, IsDue, ReadsBack, status_of, out_of, report_of}
 use Rattle.alloctoken.proofs.Ranges.{options_in_range}
-use Rattle.alloctoken.proofs.Tagging.{stays_small}
 
-differ : (a b : Status) → (code_of a == code_of b) ≡ false → a ≡ b → ⊥
+pub differ : (a b : Status) → (code_of a == code_of b) ≡ false → a ≡ b → ⊥
 differ a b h e = let k : code_of a ≡ code_of b = ap code_of e in grind (arith, nat_tests)
-
-told : {A : Type 0} {P Q : A → Type 0} (m : Option A) → ((a : A) → P a → Q a) → IfSome m P → IfSome m Q
-told None f h = tt
-told (Some a) f h = f a h
 
 told_of : {A : Type 0} (P : A → Type 0) (m : Option A) (a : A) → m ≡ Some a → IfSome m P → P a
 told_of P m a e h = let Q : Option _ → Type 0 = λ o. IfSome o P in subst Q e h
@@ -42,199 +40,221 @@ stays_appends sink e = let P : Written → Type 0 = λ w. Appends sink.old.bytes
     same None = tt
     same (Some xs) = sym (append-nil xs)
 
-module _ (words : List (List ℕ)) (files : Option Contents) (tally now : Tally) (status : Status) (out report : Change) where
-  abbrev pub R : Type 0
-  R = Runs words files tally now status out report
-
+module _ (words : List (List ℕ)) (files : Option Contents) (tally now : Tally) where
   abbrev K : Course → Type 0
   K = Comes words files tally now
 
-  -- the status is neither the good one nor that of a failed write
-  clash : {A : Type 0} (good : Status) (sink : Change) (text : List ℕ) → Writes status good sink text → (want : Status) → status ≡ want
-      → (want ≡ good → ⊥) → (want ≡ WriteFault → ⊥) → A
-  clash good sink text (inl h) want e a b = absurd (a (sym e ∙ h.0))
-  clash good sink text (inr h) want e a b = absurd (b (sym e ∙ h.0))
+  -- why a refusal is answered
+  abbrev Cause : Status → Type 0
+  Cause Usage = options_of words ≡ None
+  Cause FileFault = (o : Options) × (options_of words ≡ Some o) × Rose tally.faults now.faults × (now.failed ≡ Some o.file)
+  Cause (TooLong which.Unit) = NamesTooLong words files
+  Cause (TooLong which.Input) = ⊥
+  Cause (Lex p) = NamesText words files (λ text. IsBad text p)
+  Cause (Syntax k) = NamesText words files (GoesWrongAt k)
+  Cause TooDeep = NamesText words files GoesTooDeep
+  Cause WriteFault = ⊥
+  Cause NoMemory = Prim.Unit {0}
+  Cause Done = Prim.Unit {0}
 
-  whole : (good : Status) (sink : Change) (text : List ℕ) → Writes status good sink text → status ≢ WriteFault → (status ≡ good) × Holds sink.old sink.new text
-  whole good sink text (inl h) n = h
-  whole good sink text (inr h) n = absurd (n h.0)
+  text_caused : (o : Options) (text : List ℕ) (k : Course) → options_of words ≡ Some o → HasText files o.file text
+      → TextComes text o.max k → Cause (status_of k)
+  text_caused o text _ a h (c.bad_character p b) = record { options = o; text = text; asked = a; file = h; is = b }
+  text_caused o text _ a h (c.syntax first g) = record { options = o; text = text; asked = a; file = h; is = (first, refl, g) }
+  text_caused o text _ a h (c.too_deep g) = record { options = o; text = text; asked = a; file = h; is = g }
+  text_caused o text _ a h (c.rewritten u r f) = tt
 
-  no_rise : (good : Status) (sink : Change) (text : List ℕ) → Writes status good sink text → (Rose sink.old.faults sink.new.faults → ⊥) → (status ≡ good) × Holds sink.old sink.new text
-  no_rise good sink text (inl h) n = h
-  no_rise good sink text (inr h) n = absurd (n h.1.rose)
+  caused : (k : Course) → K k → Cause (status_of k)
+  caused _ (c.usage n t) = n
+  caused _ (c.file_fault o a b d) = (o, a, b, d)
+  caused _ (c.too_long o a l t) = (o, a, l)
+  caused _ (c.read o text k a h x t) = text_caused o text k a h x
+  caused _ (c.no_memory t) = tt
 
-  failed : (good : Status) (sink : Change) (text : List ℕ) → Writes status good sink text → status ≡ WriteFault → (WriteFault ≡ good → ⊥) → Rose sink.old.faults sink.new.faults
-  failed good sink text (inl h) e a = absurd (a (sym e ∙ h.0))
-  failed good sink text (inr h) e a = h.1.rose
+  no_write_fault : (k : Course) → K k → status_of k ≡ WriteFault → ⊥
+  no_write_fault k x e = subst Cause e (caused k x)
 
-  usage_go : (k : Course) → K k → Ends k status out report → status ≡ Usage → options_of words ≡ None
-  usage_go _ (c.usage n t) w e = n
-  usage_go _ (c.file_fault o a b d) w e = clash FileFault report (line_of FileFault) w.0 Usage e (differ Usage FileFault refl) (differ Usage WriteFault refl)
-  usage_go _ (c.too_long o a l t) w e = clash NotBuilt report (line_of NotBuilt) w.0 Usage e (differ Usage NotBuilt refl) (differ Usage WriteFault refl)
-  usage_go _ (c.no_unit o text a l n t) w e = clash NotBuilt report (line_of NotBuilt) w.0 Usage e (differ Usage NotBuilt refl) (differ Usage WriteFault refl)
-  usage_go _ (c.no_memory t) w e = clash NoMemory report (line_of NoMemory) w.0 Usage e (differ Usage NoMemory refl) (differ Usage WriteFault refl)
-  usage_go _ (c.rewritten o text u a l n q t) w e = clash Done out (unit_text (tagged o.max u)) w.0 Usage e (differ Usage Done refl) (differ Usage WriteFault refl)
+  text_kept : (o : Options) (text : List ℕ) (k : Course) → TextComes text o.max k → status_of k ≡ FileFault → ⊥
+  text_kept o text _ (c.bad_character p b) = differ (Lex p) FileFault refl
+  text_kept o text _ (c.syntax first g) = differ (Syntax (length first)) FileFault refl
+  text_kept o text _ (c.too_deep g) = differ TooDeep FileFault refl
+  text_kept o text _ (c.rewritten u r f) = differ Done FileFault refl
 
-  pub usage : R → status ≡ Usage → options_of words ≡ None
-  usage r e = usage_go r.course r.comes r.ends e
+  kept : (k : Course) → K k → (status_of k ≡ FileFault → ⊥) → now ≡ tally
+  kept _ (c.usage n t) f = t
+  kept _ (c.file_fault o a b d) f = absurd (f refl)
+  kept _ (c.too_long o a l t) f = t
+  kept _ (c.read o text k a h x t) f = t
+  kept _ (c.no_memory t) f = t
 
-  abbrev Three : Type 0
-  Three = (status ≡ Usage) ⊎ ((status ≡ WriteFault) ⊎ (status ≡ NoMemory))
+  -- a refusal may be answered as want of memory, but for that of the file
+  pub starved : (k : Course) → K k → (status_of k ≡ FileFault → ⊥) → K (refuses NoMemory)
+  starved k x f = c.no_memory (kept k x f)
 
-  refused_usage : Writes status Usage report (line_of Usage) → Three
-  refused_usage (inl h) = inl h.0
-  refused_usage (inr h) = inr (inl h.0)
+  module _ (status : Status) (out report : Change) where
+    abbrev pub R : Type 0
+    R = Runs words files tally now status out report
 
-  refused_memory : Writes status NoMemory report (line_of NoMemory) → Three
-  refused_memory (inl h) = inr (inr h.0)
-  refused_memory (inr h) = inr (inl h.0)
+    abbrev Held : Course → Type 0
+    Held (writes text) = Holds out.old out.new text × Stays report
+    Held (refuses refusal) = Holds report.old report.new (line_of refusal) × Stays out
 
-  usage_only_go : (k : Course) → K k → Ends k status out report → options_of words ≡ None → Three
-  usage_only_go _ (c.usage n t) w e = refused_usage w.0
-  usage_only_go _ (c.file_fault o a b d) w e = none_or_some (options_of words) o e a
-  usage_only_go _ (c.too_long o a l t) w e = none_or_some (options_of words) o e a
-  usage_only_go _ (c.no_unit o text a l n t) w e = none_or_some (options_of words) o e a
-  usage_only_go _ (c.no_memory t) w e = refused_memory w.0
-  usage_only_go _ (c.rewritten o text u a l n q t) w e = none_or_some (options_of words) o e a
+    good : (g : Status) (sink : Change) (text : List ℕ) → Writes status g sink text → status ≢ WriteFault → (status ≡ g) × Holds sink.old sink.new text
+    good g sink text (inl h) n = h
+    good g sink text (inr h) n = absurd (n h.0)
 
-  pub usage_only : R → options_of words ≡ None → Three
-  usage_only r e = usage_only_go r.course r.comes r.ends e
+    -- where no write failed
+    whole : (k : Course) → Ends k status out report → status ≢ WriteFault → (status ≡ status_of k) × Held k
+    whole (writes text) w n = let h = good Done out text w.0 n in (h.0, (h.1, w.1))
+    whole (refuses r) w n = let h = good r report (line_of r) w.0 n in (h.0, (h.1, w.1))
 
-  abbrev Cause : Type 0
-  Cause = (o : Options) × (options_of words ≡ Some o) × Rose tally.faults now.faults × (now.failed ≡ Some o.file)
+    cause : R → (want : Status) → status ≡ want → want ≢ WriteFault → Cause want
+    cause r want e n =
+        let h = whole r.course r.ends (λ f. n (sym e ∙ f)) in
+        subst Cause (sym h.0 ∙ e) (caused r.course r.comes)
 
-  file_fault_go : (k : Course) → K k → Ends k status out report → status ≡ FileFault → Cause
-  file_fault_go _ (c.usage n t) w e = clash Usage report (line_of Usage) w.0 FileFault e (differ FileFault Usage refl) (differ FileFault WriteFault refl)
-  file_fault_go _ (c.file_fault o a b d) w e = (o, a, b, d)
-  file_fault_go _ (c.too_long o a l t) w e = clash NotBuilt report (line_of NotBuilt) w.0 FileFault e (differ FileFault NotBuilt refl) (differ FileFault WriteFault refl)
-  file_fault_go _ (c.no_unit o text a l n t) w e = clash NotBuilt report (line_of NotBuilt) w.0 FileFault e (differ FileFault NotBuilt refl) (differ FileFault WriteFault refl)
-  file_fault_go _ (c.no_memory t) w e = clash NoMemory report (line_of NoMemory) w.0 FileFault e (differ FileFault NoMemory refl) (differ FileFault WriteFault refl)
-  file_fault_go _ (c.rewritten o text u a l n q t) w e = clash Done out (unit_text (tagged o.max u)) w.0 FileFault e (differ FileFault Done refl) (differ FileFault WriteFault refl)
+    pub usage : R → status ≡ Usage → options_of words ≡ None
+    usage r e = cause r Usage e (differ Usage WriteFault refl)
 
-  pub file_fault : R → status ≡ FileFault → Cause
-  file_fault r e = file_fault_go r.course r.comes r.ends e
+    pub file_fault : R → status ≡ FileFault → Cause FileFault
+    file_fault r e = cause r FileFault e (differ FileFault WriteFault refl)
 
-  abbrev NoUnit : Contents → List ℕ → Type 0
-  NoUnit all name = IsTooLong all name ⊎ ((text : List ℕ) × (all name ≡ Some text) × ReadsNone text)
+    too_long_so : (w : Which) → Cause (TooLong w) → (w ≡ which.Unit) × NamesTooLong words files
+    too_long_so which.Unit x = (refl, x)
+    too_long_so which.Input x = absurd x
 
-  abbrev Unread : Type 0
-  Unread = (o : Options) × (options_of words ≡ Some o) × IfSome files (λ all. NoUnit all o.file)
+    pub too_long : R → (w : Which) → status ≡ TooLong w → (w ≡ which.Unit) × NamesTooLong words files
+    too_long r w e = too_long_so w (cause r (TooLong w) e (differ (TooLong w) WriteFault refl))
 
-  not_built_go : (k : Course) → K k → Ends k status out report → status ≡ NotBuilt → Unread
-  not_built_go _ (c.usage n t) w e = clash Usage report (line_of Usage) w.0 NotBuilt e (differ NotBuilt Usage refl) (differ NotBuilt WriteFault refl)
-  not_built_go _ (c.file_fault o a b d) w e = clash FileFault report (line_of FileFault) w.0 NotBuilt e (differ NotBuilt FileFault refl) (differ NotBuilt WriteFault refl)
-  not_built_go _ (c.too_long o a l t) w e = (o, a, told {Q = λ all. NoUnit all o.file} files (λ all h. inl h) l)
-  not_built_go _ (c.no_unit o text a l n t) w e = (o, a, told {Q = λ all. NoUnit all o.file} files (λ all h. inr (text, h, n)) l)
-  not_built_go _ (c.no_memory t) w e = clash NoMemory report (line_of NoMemory) w.0 NotBuilt e (differ NotBuilt NoMemory refl) (differ NotBuilt WriteFault refl)
-  not_built_go _ (c.rewritten o text u a l n q t) w e = clash Done out (unit_text (tagged o.max u)) w.0 NotBuilt e (differ NotBuilt Done refl) (differ NotBuilt WriteFault refl)
+    pub lex : R → (p : ℕ) → status ≡ Lex p → NamesText words files (λ text. IsBad text p)
+    lex r p e = cause r (Lex p) e (differ (Lex p) WriteFault refl)
 
-  pub not_built : R → status ≡ NotBuilt → Unread
-  not_built r e = not_built_go r.course r.comes r.ends e
+    pub syntax : R → (k : ℕ) → status ≡ Syntax k → NamesText words files (GoesWrongAt k)
+    syntax r k e = cause r (Syntax k) e (differ (Syntax k) WriteFault refl)
 
-  abbrev SomeRose : Type 0
-  SomeRose = Rose out.old.faults out.new.faults ⊎ Rose report.old.faults report.new.faults
+    pub too_deep : R → status ≡ TooDeep → NamesText words files GoesTooDeep
+    too_deep r e = cause r TooDeep e (differ TooDeep WriteFault refl)
 
-  write_fault_go : (k : Course) → K k → Ends k status out report → status ≡ WriteFault → SomeRose
-  write_fault_go _ (c.usage n t) w e = inr (failed Usage report (line_of Usage) w.0 e (differ WriteFault Usage refl))
-  write_fault_go _ (c.file_fault o a b d) w e = inr (failed FileFault report (line_of FileFault) w.0 e (differ WriteFault FileFault refl))
-  write_fault_go _ (c.too_long o a l t) w e = inr (failed NotBuilt report (line_of NotBuilt) w.0 e (differ WriteFault NotBuilt refl))
-  write_fault_go _ (c.no_unit o text a l n t) w e = inr (failed NotBuilt report (line_of NotBuilt) w.0 e (differ WriteFault NotBuilt refl))
-  write_fault_go _ (c.no_memory t) w e = inr (failed NoMemory report (line_of NoMemory) w.0 e (differ WriteFault NoMemory refl))
-  write_fault_go _ (c.rewritten o text u a l n q t) w e = inl (failed Done out (unit_text (tagged o.max u)) w.0 e (differ WriteFault Done refl))
+    -- ---- failed writes
 
-  pub write_fault : R → status ≡ WriteFault → SomeRose
-  write_fault r e = write_fault_go r.course r.comes r.ends e
+    abbrev SomeRose : Type 0
+    SomeRose = Rose out.old.faults out.new.faults ⊎ Rose report.old.faults report.new.faults
 
-  abbrev Refused : Type 0
-  Refused = Appends report.old.bytes report.new.bytes (line_of status) × (out.new.bytes ≡ out.old.bytes)
+    failed : (g : Status) (sink : Change) (text : List ℕ) → Writes status g sink text → status ≡ WriteFault → (g ≡ WriteFault → ⊥) → Rose sink.old.faults sink.new.faults
+    failed g sink text (inl h) e n = absurd (n (sym h.0 ∙ e))
+    failed g sink text (inr h) e n = h.1.rose
 
-  line_stands : (good : Status) → Writes status good report (line_of good) → Stays out → status ≢ WriteFault → Refused
-  line_stands good w s n =
-      let h = whole good report (line_of good) w n in
-      let P : Status → Type 0 = λ k. Appends report.old.bytes report.new.bytes (line_of k) in
-      (subst P (sym h.0) h.1.bytes, ap (λ x. x.bytes) s)
+    some_failed : (k : Course) → K k → Ends k status out report → status ≡ WriteFault → SomeRose
+    some_failed (writes text) x w e = inl (failed Done out text w.0 e (differ Done WriteFault refl))
+    some_failed (refuses r) x w e = inr (failed r report (line_of r) w.0 e (no_write_fault (refuses r) x))
 
-  refused_go : (k : Course) → K k → Ends k status out report → status ≢ Done → status ≢ WriteFault → Refused
-  refused_go _ (c.usage n t) w d f = line_stands Usage w.0 w.1 f
-  refused_go _ (c.file_fault o a b g) w d f = line_stands FileFault w.0 w.1 f
-  refused_go _ (c.too_long o a l t) w d f = line_stands NotBuilt w.0 w.1 f
-  refused_go _ (c.no_unit o text a l n t) w d f = line_stands NotBuilt w.0 w.1 f
-  refused_go _ (c.no_memory t) w d f = line_stands NoMemory w.0 w.1 f
-  refused_go _ (c.rewritten o text u a l n q t) w d f = absurd (d (whole Done out (unit_text (tagged o.max u)) w.0 f).0)
+    pub write_fault : R → status ≡ WriteFault → SomeRose
+    write_fault r e = some_failed r.course r.comes r.ends e
 
-  pub refused : R → status ≢ Done → status ≢ WriteFault → Refused
-  refused r d f = refused_go r.course r.comes r.ends d f
+    -- ---- the words are none that the program takes
 
-  files_kept_go : (k : Course) → K k → Ends k status out report → status ≢ FileFault → status ≢ WriteFault → now ≡ tally
-  files_kept_go _ (c.usage n t) w d f = t
-  files_kept_go _ (c.file_fault o a b g) w d f = absurd (d (whole FileFault report (line_of FileFault) w.0 f).0)
-  files_kept_go _ (c.too_long o a l t) w d f = t
-  files_kept_go _ (c.no_unit o text a l n t) w d f = t
-  files_kept_go _ (c.no_memory t) w d f = t
-  files_kept_go _ (c.rewritten o text u a l n q t) w d f = t
+    abbrev Three : Type 0
+    Three = (status ≡ Usage) ⊎ ((status ≡ WriteFault) ⊎ (status ≡ NoMemory))
 
-  pub files_kept : R → status ≢ FileFault → status ≢ WriteFault → now ≡ tally
-  files_kept r d f = files_kept_go r.course r.comes r.ends d f
+    usage_or_fault : Writes status Usage report (line_of Usage) → Three
+    usage_or_fault (inl h) = inl h.0
+    usage_or_fault (inr h) = inr (inl h.0)
 
-  abbrev Kept : Type 0
-  Kept = (out.new.faults ≡ out.old.faults) × (report.new.faults ≡ report.old.faults)
+    memory_or_fault : Writes status NoMemory report (line_of NoMemory) → Three
+    memory_or_fault (inl h) = inr (inr h.0)
+    memory_or_fault (inr h) = inr (inl h.0)
 
-  sinks_kept_go : (k : Course) → Ends k status out report → status ≢ WriteFault → Kept
-  sinks_kept_go (writes text) w f = ((whole Done out text w.0 f).1.kept, ap (λ x. x.faults) w.1)
-  sinks_kept_go (refuses s) w f = (ap (λ x. x.faults) w.1, (whole s report (line_of s) w.0 f).1.kept)
+    usage_only_go : (k : Course) → K k → Ends k status out report → options_of words ≡ None → Three
+    usage_only_go _ (c.usage n t) w e = usage_or_fault w.0
+    usage_only_go _ (c.file_fault o a b d) w e = none_or_some (options_of words) o e a
+    usage_only_go _ (c.too_long o a l t) w e = none_or_some (options_of words) o e a
+    usage_only_go _ (c.read o text k a h x t) w e = none_or_some (options_of words) o e a
+    usage_only_go _ (c.no_memory t) w e = memory_or_fault w.0
 
-  pub sinks_kept : R → status ≢ WriteFault → Kept
-  sinks_kept r f = sinks_kept_go r.course r.ends f
+    pub usage_only : R → options_of words ≡ None → Three
+    usage_only r e = usage_only_go r.course r.comes r.ends e
 
-  refusal_due : (all : Contents) (good : Status) → Writes status good report (line_of good) → Stays out → (Rose report.old.faults report.new.faults → ⊥)
-      → Due words all good [] (line_of good) → IsDue words all status out report
-  refusal_due all good w s n d =
-      let h = no_rise good report (line_of good) w n in
-      let P : Status → Type 0 = λ k. Due words all k [] (line_of good) in
-      record { text = []; line = line_of good; due = subst P (sym h.0) d; out_holds = stays_appends out s; report_holds = h.1.bytes }
+    -- ---- what stands after a refusal
 
-  text_due : (all : Contents) (text : List ℕ) → Writes status Done out text → Stays report → (Rose out.old.faults out.new.faults → ⊥)
-      → Due words all Done text [] → IsDue words all status out report
-  text_due all text w s n d =
-      let h = no_rise Done out text w n in
-      let P : Status → Type 0 = λ k. Due words all k text [] in
-      record { text = text; line = []; due = subst P (sym h.0) d; out_holds = h.1.bytes; report_holds = stays_appends report s }
+    abbrev Refused : Type 0
+    Refused = Appends report.old.bytes report.new.bytes (line_of status) × (out.new.bytes ≡ out.old.bytes)
 
-  due_go : (all : Contents) → files ≡ Some all → (Rose tally.faults now.faults → ⊥) → (Rose out.old.faults out.new.faults → ⊥)
-      → (Rose report.old.faults report.new.faults → ⊥) → status ≢ NoMemory → (k : Course) → K k → Ends k status out report → IsDue words all status out report
-  due_go all e p q v m _ (c.usage n t) w = refusal_due all Usage w.0 w.1 v (c.due_usage n)
-  due_go all e p q v m _ (c.file_fault o a b g) w = absurd (p b)
-  due_go all e p q v m _ (c.too_long o a l t) w = refusal_due all NotBuilt w.0 w.1 v (c.due_too_long o a (told_of (λ x. IsTooLong x o.file) files all e l))
-  due_go all e p q v m _ (c.no_unit o text a l n t) w =
-      refusal_due all NotBuilt w.0 w.1 v (c.due_no_unit o text a (told_of (λ x. x o.file ≡ Some text) files all e l) n)
-  due_go all e p q v m _ (c.no_memory t) w = absurd (m (no_rise NoMemory report (line_of NoMemory) w.0 v).0)
-  due_go all e p q v m _ (c.rewritten o text u a l n x t) w =
-      text_due all (unit_text (tagged o.max u)) w.0 w.1 q (c.due_text o text u a (told_of (λ y. y o.file ≡ Some text) files all e l) n x)
+    refused_so : (k : Course) → status ≡ status_of k → Held k → status ≢ Done → Refused
+    refused_so (writes text) e h d = absurd (d e)
+    refused_so (refuses r) e h d =
+        let P : Status → Type 0 = λ s. Appends report.old.bytes report.new.bytes (line_of s) in
+        (subst P (sym e) h.0.bytes, ap (λ x. x.bytes) h.1)
 
-  pub due : R → (all : Contents) → files ≡ Some all → (Rose tally.faults now.faults → ⊥) → (Rose out.old.faults out.new.faults → ⊥)
-      → (Rose report.old.faults report.new.faults → ⊥) → status ≢ NoMemory → IsDue words all status out report
-  due r all e p q v m = due_go all e p q v m r.course r.comes r.ends
+    pub refused : R → status ≢ Done → status ≢ WriteFault → Refused
+    refused r d f = let h = whole r.course r.ends f in refused_so r.course h.0 h.1 d
 
-  again : (o : Options) (u : List External) → options_of words ≡ Some o → IsSmall u → Reads (unit_text (tagged o.max u)) (tagged o.max u)
-  again o u a s =
-      let range = options_in_range words o a in
-      let low : 0 < o.max = omega (arith, range.0) in
-      let t = stays_small o.max low range.1 u s in
-      (t, text_lexes (tagged o.max u) (small_wf (tagged o.max u) t))
+    pub files_kept : R → status ≢ FileFault → status ≢ WriteFault → now ≡ tally
+    files_kept r d f = let h = whole r.course r.ends f in kept r.course r.comes (λ e. d (h.0 ∙ e))
 
-  back : (o : Options) (text : List ℕ) (u : List External) → options_of words ≡ Some o → IfSome files (λ all. all o.file ≡ Some text) → Reads text u
-      → Writes status Done out (unit_text (tagged o.max u)) → status ≡ Done → ReadsBack words files out
-  back o text u a l x (inr h) e = absurd (differ Done WriteFault refl (sym e ∙ h.0))
-  back o text u a l x (inl h) e =
-      record { options = o; text = text; unit = u; asked = a; file = l; reads = x; written = h.1.bytes; again = again o u a x.0 }
+    abbrev Kept : Type 0
+    Kept = (out.new.faults ≡ out.old.faults) × (report.new.faults ≡ report.old.faults)
 
-  reads_back_go : (k : Course) → K k → Ends k status out report → status ≡ Done → ReadsBack words files out
-  reads_back_go _ (c.usage n t) w e = clash Usage report (line_of Usage) w.0 Done e (differ Done Usage refl) (differ Done WriteFault refl)
-  reads_back_go _ (c.file_fault o a b d) w e = clash FileFault report (line_of FileFault) w.0 Done e (differ Done FileFault refl) (differ Done WriteFault refl)
-  reads_back_go _ (c.too_long o a l t) w e = clash NotBuilt report (line_of NotBuilt) w.0 Done e (differ Done NotBuilt refl) (differ Done WriteFault refl)
-  reads_back_go _ (c.no_unit o text a l n t) w e = clash NotBuilt report (line_of NotBuilt) w.0 Done e (differ Done NotBuilt refl) (differ Done WriteFault refl)
-  reads_back_go _ (c.no_memory t) w e = clash NoMemory report (line_of NoMemory) w.0 Done e (differ Done NoMemory refl) (differ Done WriteFault refl)
-  reads_back_go _ (c.rewritten o text u a l n x t) w e = back o text u a l x w.0 e
+    kept_so : (k : Course) → Held k → Kept
+    kept_so (writes text) h = (h.0.kept, ap (λ x. x.faults) h.1)
+    kept_so (refuses r) h = (ap (λ x. x.faults) h.1, h.0.kept)
 
-  pub reads_back : R → status ≡ Done → ReadsBack words files out
-  reads_back r e = reads_back_go r.course r.comes r.ends e
+    pub sinks_kept : R → status ≢ WriteFault → Kept
+    sinks_kept r f = kept_so r.course (whole r.course r.ends f).1
+
+    -- ---- what is due
+
+    due_course : (all : Contents) → files ≡ Some all → (Rose tally.faults now.faults → ⊥) → (k : Course) → K k → status_of k ≢ NoMemory → Due words all k
+    due_course all e p _ (c.usage n t) m = c.due_usage n
+    due_course all e p _ (c.file_fault o a b d) m = absurd (p b)
+    due_course all e p _ (c.too_long o a l t) m = c.due_too_long o a (told_of (λ x. IsTooLong x o.file) files all e l)
+    due_course all e p _ (c.read o text k a h x t) m = c.due_text o text k a (subst (λ f. HasText f o.file text) e h) x
+    due_course all e p _ (c.no_memory t) m = absurd (m refl)
+
+    due_held : (all : Contents) (k : Course) → Due words all k → status ≡ status_of k → Held k → IsDue words all status out report
+    due_held all (writes text) d e h = record { course = writes text; due = d; answered = e; out_holds = h.0.bytes; report_holds = stays_appends report h.1 }
+    due_held all (refuses r) d e h = record { course = refuses r; due = d; answered = e; out_holds = stays_appends out h.1; report_holds = h.0.bytes }
+
+    pub due : R → (all : Contents) → files ≡ Some all → (Rose tally.faults now.faults → ⊥) → (Rose out.old.faults out.new.faults → ⊥)
+        → (Rose report.old.faults report.new.faults → ⊥) → status ≢ NoMemory → IsDue words all status out report
+    due r all e p q v m =
+        let h = whole r.course r.ends (λ f. no_rise (write_fault r f)) in
+        due_held all r.course (due_course all e p r.course r.comes (λ x. m (h.0 ∙ x))) h.0 h.1
+      where
+        no_rise : SomeRose → ⊥
+        no_rise (inl x) = q x
+        no_rise (inr x) = v x
+
+    -- ---- what was written reads back
+
+    back_text : (o : Options) (text : List ℕ) (k : Course) → options_of words ≡ Some o → HasText files o.file text
+        → TextComes text o.max k → status_of k ≡ Done → Held k → ReadsBack words files out
+    back_text o text _ a h (c.bad_character p b) e w = absurd (differ (Lex p) Done refl e)
+    back_text o text _ a h (c.syntax first g) e w = absurd (differ (Syntax (length first)) Done refl e)
+    back_text o text _ a h (c.too_deep g) e w = absurd (differ TooDeep Done refl e)
+    back_text o text _ a h (c.rewritten u r f) e w =
+        let range = options_in_range words o a in
+        let low : 0 < o.max = omega (arith, range.0) in
+        record {
+          options = o;
+          text = text;
+          unit = u;
+          asked = a;
+          file = h;
+          reads = r;
+          flat = f;
+          written = w.0.bytes;
+          again = (stays_formed o.max low range.1 u r.0, reads_again o.max low range.1 u r.0);
+          again_flat = stays_flat o.max u f;
+        }
+
+    back_go : (k : Course) → K k → status_of k ≡ Done → Held k → ReadsBack words files out
+    back_go _ (c.usage n t) e w = absurd (differ Usage Done refl e)
+    back_go _ (c.file_fault o a b d) e w = absurd (differ FileFault Done refl e)
+    back_go _ (c.too_long o a l t) e w = absurd (differ (TooLong which.Unit) Done refl e)
+    back_go _ (c.read o text k a h x t) e w = back_text o text k a h x e w
+    back_go _ (c.no_memory t) e w = absurd (differ NoMemory Done refl e)
+
+    pub reads_back : R → status ≡ Done → ReadsBack words files out
+    reads_back r e =
+        let h = whole r.course r.ends (λ f. differ Done WriteFault refl (sym e ∙ f)) in
+        back_go r.course r.comes (sym h.0 ∙ e) h.1

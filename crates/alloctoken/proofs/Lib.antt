@@ -1,16 +1,6 @@
 pub mod Drafts
-pub mod Items
-pub mod Lines
 pub mod OptionExamples
 pub mod Ranges
-pub mod Saying
-pub mod Scanning
-pub mod Skipped
-pub mod Tagging
-pub mod Texts
-pub mod Using
-pub mod Worked
-pub mod Writing
 pub mod Courses
 pub mod Readings
 pub mod Served

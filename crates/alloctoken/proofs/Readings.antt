@@ -1,14 +1,17 @@
 -- A text and its unit.
-use Rattle.std.proofs.Common.{◌≡◌, ◌≢◌, ℕ, ◌+◌, ◌<◌, ◌≤◌, List, [], ◌∷◌, ◌++◌, length, map, Result, Ok, Err, refl, sym, ◌∙◌, ap, subst, length-append, arith}
+use Rattle.std.proofs.Common.{◌≡◌, ◌≢◌, ℕ, ◌+◌, ◌<◌, ◌≤◌, List, [], ◌∷◌, ◌++◌, length, take, drop, map, refl, sym, ◌∙◌, ap, subst, length-append, arith}
+use Rattle.std.proofs.lemmas.List.{length-take-le, take-append-drop}
 use Rattle.tok_base.specs.declared.token.Token.{Token}
-use Rattle.c_lexer.specs.Cut.{Spot, Cuts, stop, separator, token, begin, Lexes, IsBad}
+use Rattle.tok_base.specs.declared.token.Lexeme.{Lexeme}
+use Rattle.c_lexer.specs.Cut.{Spot, Cuts, stop, separator, token, begin, Lexes}
 use Rattle.c_lexer.specs.Lexeme.{lexeme_of, LexesTo}
 use Rattle.c_lexer.proofs.Spellings.{spelling_told}
-use Rattle.c_lexer.proofs.Laws.{lexes_same, bad_excludes}
 use Rattle.c_tree.specs.Tree.{External}
-use Rattle.c_tree.specs.Reading.{spelled}
-use Rattle.c_parser.specs.Small.{IsSmall}
-use Rattle.alloctoken.specs.Course.{Reads}
+use Rattle.c_tree.specs.Depth.{IsFlat}
+use Rattle.c_tree.specs.Reading.{IsUnit, IsPlace, IsDeep}
+use Rattle.c_tree.specs.Reading as trees
+use Rattle.c_parser.specs.Parsed.{IsParsed, IsWrongAt, IsNotFlat, IsTooDeep, not_flat, goes_deep}
+use Rattle.alloctoken.specs.Course.{Reads, GoesWrong, GoesWrongAt, GoesTooDeep, is_deep, begins_deep}
 
 nil_right : (w : List ℕ) → w ++ [] ≡ w
 nil_right [] = refl
@@ -32,12 +35,30 @@ fewer _ _ _ (token s n a t ts h k) =
 pub fewer_tokens : (text : List ℕ) (ts : List Token) → Lexes text ts → length ts ≤ length text
 fewer_tokens text ts h = fewer (begin text) h.after ts h.cut
 
-pub reads : (text : List ℕ) (ts : List Token) (u : List External) → Lexes text ts → IsSmall u → spelled u ≡ map lexeme_of ts → Reads text u
-reads text ts u l s e = (s, record { tokens = ts; lexes = l; are = sym e })
+lexes_to : (text : List ℕ) (ts : List Token) (ls : List Lexeme) → Lexes text ts → map lexeme_of ts ≡ ls → LexesTo text ls
+lexes_to text ts ls l e = record { tokens = ts; lexes = l; are = e }
 
--- what another reading of the text spells
-pub spells_so : (text : List ℕ) (ts : List Token) (u : List External) → Lexes text ts → Reads text u → spelled u ≡ map lexeme_of ts
-spells_so text ts u l r = sym r.1.are ∙ ap (map lexeme_of) (lexes_same text r.1.tokens ts r.1.lexes l)
+reads_so : (text : List ℕ) (ts : List Token) (u : List External) → Lexes text ts → trees.Reads (map lexeme_of ts) u → Reads text u
+reads_so text ts u l r = (r.0, lexes_to text ts (trees.spelled u) l (sym r.1))
 
-pub reads_none : (text : List ℕ) (p : ℕ) (u : List External) → IsBad text p → Reads text u → ⊥
-reads_none text p u b r = bad_excludes text p r.1.tokens b r.1.lexes
+pub reads : (text : List ℕ) (ts : List Token) (u : List External) → Lexes text ts → IsParsed (map lexeme_of ts) u → Reads text u × IsFlat u
+reads text ts u l p = (reads_so text ts u l p.reads, p.flat)
+
+-- the tokens go wrong behind the first of them
+wrong : (text : List ℕ) (ts : List Token) (first rest : List Lexeme) → Lexes text ts → map lexeme_of ts ≡ first ++ rest → IsPlace first rest
+    → (IsUnit (map lexeme_of ts) → ⊥) → GoesWrong text first
+wrong text ts first rest l e p n =
+    let Q : List Lexeme → Type 0 = λ ls. IsUnit ls → ⊥ in
+    record { rest = rest; lexes = lexes_to text ts (first ++ rest) l e; none = subst Q e n; place = p }
+
+pub goes_wrong : (text : List ℕ) (ts : List Token) (k : ℕ) → Lexes text ts → IsWrongAt (map lexeme_of ts) k → GoesWrongAt k text
+goes_wrong text ts k l w =
+    let ls = map lexeme_of ts in
+    (take k ls, length-take-le k ls w.within, wrong text ts (take k ls) (drop k ls) l (sym (take-append-drop k ls)) w.place w.none)
+
+deep_so : (text : List ℕ) (ts : List Token) → Lexes text ts → IsNotFlat (map lexeme_of ts) → GoesTooDeep text
+deep_so text ts l (not_flat u r n) = is_deep u (reads_so text ts u l r) n
+deep_so text ts l (goes_deep first rest e p n d) = begins_deep first (wrong text ts first rest l e p n) d
+
+pub goes_too_deep : (text : List ℕ) (ts : List Token) → Lexes text ts → IsTooDeep (map lexeme_of ts) → GoesTooDeep text
+goes_too_deep text ts l d = deep_so text ts l d.why

@@ -1,15 +1,20 @@
 //! What a run comes to: the text that is to be written, or a refusal.
 
-ghost use Rattle.std.specs.Prelude.{◌≡◌, ◌≤◌, length};
-ghost use Rattle.alloctoken.specs.Reading.{ReadsUnit, ReadsFile, Rewrites, Serves, Takes};
+ghost use Rattle.std.specs.Prelude.{◌≡◌, ◌≤◌, length, IfOk};
+ghost use Rattle.c_tree.specs.Bare.{bare_unit};
+ghost use Rattle.c_tree.specs.Printed.{unit_text};
+ghost use Rattle.c_tree.specs.View.{view_unit};
+ghost use Rattle.call_rewriter.specs.Tagged.{tagged};
+ghost use Rattle.alloctoken.specs.Reading.{ReadsFile, ReadsUnit, Rewrites, Serves, Takes};
 
 use crate::options::{Options, options_of};
-use crate::text::tagged_text;
 use c_lexer::{LexEnd, lex};
 use c_parser::{ParseEnd, parse};
+use c_printer::print_unit;
 use c_tree::Unit;
+use call_rewriter::tagged_unit;
 use std::alloc::{AllocError, Global};
-use tok_base::{Bytes, Files, Items, NoMemory, ReadEnd, Status};
+use tok_base::{Bytes, Files, Items, NoMemory, ReadEnd};
 
 /// The most bytes of a unit.
 const UNIT_LIMIT: u64 = 1048576;
@@ -21,8 +26,14 @@ pub enum Refusal {
     Usage,
     /// The file could not be read.
     FileFault,
-    /// The text is too long, or no unit of the grammar that is read so far.
-    NotBuilt,
+    /// The text has more bytes than a unit may have.
+    TooLong,
+    /// Neither a token nor a separator begins at this byte.
+    Lex(u32),
+    /// The tokens are no unit's; so many begin one, and with the next they begin none.
+    Syntax(u32),
+    /// The nodes of the unit nest too deep.
+    TooDeep,
     /// There was no memory.
     NoMemory,
 }
@@ -55,11 +66,11 @@ fn unit_of(alloc: Global, text: &[u8]) -> Result<Unit, Refusal>
     match lex(alloc, text) {
         Ok(tokens) => match parse(alloc, &tokens) {
             Ok(unit) => Ok(unit),
-            Err(ParseEnd::Syntax(_)) => Err(Refusal::NotBuilt),
-            Err(ParseEnd::TooDeep) => Err(Refusal::NotBuilt),
+            Err(ParseEnd::Syntax(place)) => Err(Refusal::Syntax(place)),
+            Err(ParseEnd::TooDeep) => Err(Refusal::TooDeep),
             Err(ParseEnd::NoMemory) => Err(Refusal::NoMemory),
         },
-        Err(LexEnd::Bad(_)) => Err(Refusal::NotBuilt),
+        Err(LexEnd::Bad(place)) => Err(Refusal::Lex(place)),
         Err(LexEnd::NoMemory) => Err(Refusal::NoMemory),
     }
 }
@@ -71,13 +82,23 @@ fn text_of<F: Files>(alloc: Global, files: &mut F, name: &[u8]) -> Result<Bytes,
     match files.read(alloc, name, UNIT_LIMIT) {
         Ok(text) => Ok(text),
         Err(ReadEnd::Fault) => Err(Refusal::FileFault),
-        Err(ReadEnd::TooLong) => Err(Refusal::NotBuilt),
+        Err(ReadEnd::TooLong) => Err(Refusal::TooLong),
         Err(ReadEnd::NoMemory) => Err(Refusal::NoMemory),
     }
 }
 
+/// The text of a unit with its sites tagged.
+fn tagged_text(alloc: Global, unit: &Unit, max: u32) -> Result<Bytes, NoMemory>
+    requires least { 1 ≤ max }
+    requires greatest { max ≤ 65536 }
+    ensures { IfOk result (λ text. text ≡ unit_text (tagged max (bare_unit (view_unit unit.now)))) }
+{
+    let tagged = tagged_unit(alloc, unit, max)?;
+    print_unit(alloc, &tagged)
+}
+
 /// The text of a unit of this text, with its sites tagged.
-fn tagged_unit(alloc: Global, text: &[u8], max: u32) -> Result<Bytes, Refusal>
+fn rewritten(alloc: Global, text: &[u8], max: u32) -> Result<Bytes, Refusal>
     requires limit { length text.now ≤ 1048576 }
     requires least { 1 ≤ max }
     requires greatest { max ≤ 65536 }
@@ -86,20 +107,20 @@ fn tagged_unit(alloc: Global, text: &[u8], max: u32) -> Result<Bytes, Refusal>
     match unit_of(alloc, text) {
         Ok(unit) => match tagged_text(alloc, &unit, max) {
             Ok(tagged) => Ok(tagged),
-            Err(_) => Err(Refusal::NoMemory),
+            Err(NoMemory) => Err(Refusal::NoMemory),
         },
         Err(refusal) => Err(refusal),
     }
 }
 
 /// The text that the options ask for.
-fn rewritten<F: Files>(alloc: Global, files: &mut F, options: &Options) -> Result<Bytes, Refusal>
+fn served<F: Files>(alloc: Global, files: &mut F, options: &Options) -> Result<Bytes, Refusal>
     requires least { 1 ≤ options.now.max }
     requires greatest { options.now.max ≤ 65536 }
     ensures { Serves options.now (F.contents files.old) (F.tally files.old) (F.tally files.new) result }
 {
     match text_of(alloc, files, options.file.as_slice()) {
-        Ok(text) => tagged_unit(alloc, text.as_slice(), options.max),
+        Ok(text) => rewritten(alloc, text.as_slice(), options.max),
         Err(refusal) => Err(refusal),
     }
 }
@@ -113,7 +134,7 @@ pub fn course<F: Files>(
     ensures { Takes words.now (F.contents files.old) (F.tally files.old) (F.tally files.new) result }
 {
     match options_of(alloc, words) {
-        Ok(Some(options)) => rewritten(alloc, files, &options),
+        Ok(Some(options)) => served(alloc, files, &options),
         Ok(None) => Err(Refusal::Usage),
         Err(NoMemory) => Err(Refusal::NoMemory),
     }

@@ -1,35 +1,25 @@
 //! The program `alloctoken`: it rewrites C text so that each allocation call carries its token. Its top call is
-//! `alloctoken_main`, over files and sinks that it is handed; `specs/Course.antt` says what it does, and
-//! `specs/Tagged.antt` what the rewritten unit is.
+//! `alloctoken_main`, over files and sinks that it is handed; `specs/Course.antt` says what it does.
 #![tactic(auto)]
 
 mod course;
-mod examples;
-mod laws;
-mod line;
 mod options;
-mod plan;
 mod run;
-mod say;
-mod scan;
-mod site;
-mod text;
-mod unit;
-mod uses;
 
-pub use examples::worked_examples;
-pub use laws::tagging_laws;
 pub use options::{Options, option_examples, options_of};
 pub use run::alloctoken_main;
 use std::alloc::Global;
 use std::env;
 use std::io::ErrorKind;
 use std::process::ExitCode;
-pub use text::tagged_text;
 use tok_base::{Bytes, Items, NoMemory, RealFiles, RealSink, Status};
 
 #[cfg(test)]
 mod option_tests;
+#[cfg(test)]
+mod reading_tests;
+#[cfg(test)]
+mod tables;
 #[cfg(test)]
 mod tests;
 

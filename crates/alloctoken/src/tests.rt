@@ -3,14 +3,14 @@
 use super::alloctoken_main;
 use std::alloc::Global;
 use std::test::Fail;
-use tok_base::{Bytes, Items, MemFiles, MemSink, Status};
+use tok_base::{Bytes, Items, MemFiles, MemSink, Status, Which};
 
 /// What a run ended with: its status, and what it wrote on out and on report.
 #[derive(Drop)]
-struct Ended {
-    status: Status,
-    out: MemSink,
-    report: MemSink,
+pub struct Ended {
+    pub status: Status,
+    pub out: MemSink,
+    pub report: MemSink,
 }
 
 fn bytes(alloc: Global, text: &str) -> Result<Bytes, Fail> {
@@ -30,7 +30,7 @@ fn sink(alloc: Global, fails: &[u64]) -> Result<MemSink, Fail> {
 }
 
 /// Runs the program on these words, with one file `a.c`; the sinks fail at the calls that are named.
-fn run_with(
+pub fn run_with(
     alloc: Global,
     words: &[&str],
     unit: Bytes,
@@ -51,18 +51,18 @@ fn run_with(
     })
 }
 
-fn run(alloc: Global, words: &[&str], unit: &str) -> Result<Ended, Fail> {
+pub fn run(alloc: Global, words: &[&str], unit: &str) -> Result<Ended, Fail> {
     run_with(alloc, words, bytes(alloc, unit)?, &[], &[])
 }
 
-const REWRITE: [&str; 6] = ["rewrite", "--mode", "increment", "--max", "2", "a.c"];
+pub const REWRITE: [&str; 6] = ["rewrite", "--mode", "increment", "--max", "2", "a.c"];
 
 const THREE: &str =
     "void *malloc(unsigned long);\nint main(void) { void *a; a = malloc(1); a = malloc(2); a = malloc(3); return 0; }";
 
 const USAGE: &str = "usage: alloctoken rewrite|tokens|exec|run|sample [options] FILE\n";
 
-fn assert_ended(
+pub fn assert_ended(
     rt: &impl std::process::Abort,
     ended: &Ended,
     status: Status,
@@ -88,19 +88,32 @@ fn three_calls_of_malloc_get_the_tokens_in_turn(rt: HostRuntime) -> Result<(), F
 }
 
 #[test]
-fn texts_outside_the_grammar_are_not_built(rt: HostRuntime) -> Result<(), Fail> {
-    let units = [
-        "int f(void) { if (1) return 1; }",
-        "int f(void) { return 1 }",
-        "int f(void) {",
-        "int a = 08;",
-        "int f() { return 1; }",
-        "char *f(void) { return \"a\"; }",
-    ];
-    for unit in &units {
-        let ended = run(rt.alloc(), &REWRITE, unit)?;
-        assert_ended(&rt, &ended, Status::NotBuilt, "", "not built\n");
-    }
+fn a_call_is_a_site_wherever_it_stands(rt: HostRuntime) -> Result<(), Fail> {
+    let unit =
+        "void *malloc(unsigned long); void *p = malloc(1); void f(int n) { for (int i = n; i; i--) if (malloc(malloc(i))) { void *q = (malloc)(n) ? malloc(n) : 0; } }";
+    let ended = run(rt.alloc(), &REWRITE, unit)?;
+    assert_ended(
+        &rt,
+        &ended,
+        Status::Done,
+        "void * __alloc_token_malloc ( unsigned long , unsigned long ) ;\nvoid * malloc ( unsigned long ) ;\nvoid * p = __alloc_token_malloc ( 1 , 0UL ) ;\nvoid f ( int n ) { for ( int i = n ; i ; i -- ) if ( __alloc_token_malloc ( __alloc_token_malloc ( i , 0UL ) , 1UL ) ) { void * q = ( __alloc_token_malloc ) ( n , 1UL ) ? __alloc_token_malloc ( n , 0UL ) : 0 ; } }\n",
+        "",
+    );
+    Ok(())
+}
+
+#[test]
+fn operands_of_sizeof_and_of_the_builtin_hold_no_site(rt: HostRuntime) -> Result<(), Fail> {
+    let unit =
+        "void *malloc(unsigned long); unsigned long g(void) { return sizeof(malloc(4)) + sizeof malloc(4) + __builtin_infer_alloc_token(malloc(4)); }";
+    let ended = run(rt.alloc(), &REWRITE, unit)?;
+    assert_ended(
+        &rt,
+        &ended,
+        Status::Done,
+        "void * malloc ( unsigned long ) ;\nunsigned long g ( void ) { return sizeof ( malloc ( 4 ) ) + sizeof malloc ( 4 ) + __builtin_infer_alloc_token ( malloc ( 4 ) ) ; }\n",
+        "",
+    );
     Ok(())
 }
 
@@ -192,7 +205,13 @@ fn a_unit_above_the_limit_is_refused(rt: HostRuntime) -> Result<(), Fail> {
     assert_ended(&rt, &ended, Status::Done, "", "");
     spaces.push(b' ')?;
     let ended = run_with(alloc, &REWRITE, spaces, &[], &[])?;
-    assert_ended(&rt, &ended, Status::NotBuilt, "", "not built\n");
+    assert_ended(
+        &rt,
+        &ended,
+        Status::TooLong(Which::Unit),
+        "",
+        "unit too long\n",
+    );
     Ok(())
 }
 

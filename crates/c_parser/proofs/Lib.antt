@@ -1,12 +1,1 @@
-pub mod Formed
-pub mod Complete
-pub mod Sound
-pub mod Erased
-pub mod Marked
-pub mod Symbols
-pub mod Whole
-pub mod Parts
 pub mod Told
-pub mod Examples
-pub mod Runs
-pub mod Law

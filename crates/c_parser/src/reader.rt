@@ -1,27 +1,28 @@
 //! The reader over all tokens.
 
-ghost use Rattle.std.specs.Prelude.{◌≡◌, ℕ, ◌<◌, ◌^◌, length, List, All, IfOk, map};
+ghost use Rattle.std.specs.Prelude.{◌≡◌, ℕ, ◌<◌, ◌^◌, [], length, List, All, IfOk, map};
 ghost use Rattle.c_lexer.specs.Token.{IsToken};
 ghost use Rattle.c_lexer.specs.Lexeme.{lexeme_of};
 ghost use Rattle.c_tree.specs.Bare.{bare_unit};
+ghost use Rattle.c_tree.specs.Depth.{IsFlat};
 ghost use Rattle.c_tree.specs.Places.{IsNumbered, IsPlaced};
-ghost use Rattle.c_tree.specs.Reading.{spelled};
+ghost use Rattle.c_tree.specs.Reading.{Reads};
 ghost use Rattle.c_tree.specs.Tree.{External};
 ghost use Rattle.c_tree.specs.View.{view_unit};
-ghost use Rattle.c_parser.specs.Inside.{view_mode, Gives};
-ghost use Rattle.c_parser.specs.Parsed.{Ended, Finished, IsParsed, Parsed, Reached, Reads, read_all};
-ghost use Rattle.c_parser.specs.Reader as spec_reader;
-ghost use Rattle.c_parser.specs.Small.{IsSmall};
-ghost use Rattle.c_parser.specs.Symbol as spec;
+ghost use Rattle.c_reader.specs.MarkedInside as inside;
+ghost use Rattle.c_reader.specs.Reader as reader;
+ghost use Rattle.c_stack.specs.Gives.{Gives, env_after};
+ghost use Rattle.c_parser.specs.Parsed.{Answers, Ended, Finished, IsParsed, IsTooDeep, IsWrongAt, Parsed, Reached, Takes, view_state};
+ghost use Rattle.c_stack.specs.Views.{view_mode};
 
-use crate::inside::{Mode, Next};
-use crate::statement::step;
-use crate::step::StepEnd;
-use crate::symbol::symbol_of;
+use crate::dispatch::one_token;
+use c_stack::inside::{Mode, Next};
+use c_stack::names::Names;
+use c_stack::step::StepEnd;
 use c_tree::Unit;
-use std::alloc::Global;
+use std::alloc::{AllocError, Global};
 use thiserror::Error;
-use tok_base::{Items, Token};
+use tok_base::{Bytes, Items, Token};
 
 /// Why tokens give no unit.
 #[derive(Clone, Copy, Debug, PartialEq, Eq, Error)]
@@ -29,7 +30,7 @@ pub enum ParseEnd {
     /// The tokens are no unit's; the number of those that were taken before one that cannot follow them.
     #[error("no unit has the token {0} there")]
     Syntax(u32),
-    /// The tree would be too deep. The grammar that is read so far has no such tree.
+    /// The tree would be deeper than 200 nodes.
     #[error("too deep")]
     TooDeep,
     /// There was no memory.
@@ -37,35 +38,89 @@ pub enum ParseEnd {
     NoMemory,
 }
 
-fn one_token(alloc: Global, id: u32, end: u32, mode: Mode, token: &Token) -> Result<Next, StepEnd>
-    ensures { Gives result (spec_reader.then_step id end (view_mode mode) token.now.span (spec.symbol (record { kind = token.now.kind; text = token.now.text }))) }
+/// Where the reader is: the number of the next node, the typedef names so far, and the mode.
+#[derive(Drop)]
+pub struct State {
+    pub id: u32,
+    pub names: Names,
+    pub mode: Mode,
+}
+
+/// Why a token leads nowhere.
+#[derive(Clone, Copy, Debug)]
+pub enum Refused {
+    Wrong,
+    TooDeep,
+    NoMemory,
+}
+
+/// The names with one that a token made.
+fn with_name(mut names: Names, name: Option<Bytes>) -> Result<Names, AllocError>
+    ensures { IfOk result (λ n. n ≡ env_after name names) }
 {
-    match symbol_of(token) {
-        Some(symbol) => step(alloc, id, end, mode, symbol, token.span),
-        None => Err(StepEnd::Wrong),
+    match name {
+        Some(n) => names.add(n)?,
+        None => {}
+    }
+    Ok(names)
+}
+
+/// Lets what was read so far go.
+fn give_up<T: Drop>(_: T, why: Refused) -> Result<State, Refused>
+    ensures { result ≡ Err why }
+{
+    Err(why)
+}
+
+/// The next state, if a flat unit may begin so.
+fn enter(names: Names, next: Next) -> Result<State, Refused>
+    ensures { Takes result (inside.go_on next.id (env_after next.name names) (view_mode next.mode)) }
+{
+    let Next { id, name, mode } = next;
+    if mode.is_low() {
+        match with_name(names, name) {
+            Ok(names) => Ok(State { id, names, mode }),
+            Err(_) => give_up(mode, Refused::NoMemory),
+        }
+    } else {
+        give_up((names, name, mode), Refused::TooDeep)
+    }
+}
+
+fn take_token(alloc: Global, state: State, end: u32, token: &Token) -> Result<State, Refused>
+    ensures { Takes result (reader.token_step (view_state state) end token.now) }
+{
+    let State { id, names, mode } = state;
+    match one_token(alloc, &names, id, end, mode, token) {
+        Ok(next) => enter(names, next),
+        Err(StepEnd::Wrong) => Err(Refused::Wrong),
+        Err(StepEnd::NoMemory) => Err(Refused::NoMemory),
     }
 }
 
 /// Where the tokens lead, if each can be taken.
-fn read_tokens(alloc: Global, tokens: &[Token]) -> Result<Next, ParseEnd>
+fn read_tokens(alloc: Global, tokens: &[Token]) -> Result<State, ParseEnd>
     requires { length tokens.now < 2 ^ 24 }
-    ensures { Reached result (read_all tokens.now) }
+    ensures { Reached result tokens.now }
 {
-    let mut id = 0;
     let mut end = 0;
-    let mut mode = Mode::WantExternal(Items::new(alloc));
+    let mut state = State {
+        id: 0,
+        names: Names::new(alloc),
+        mode: Mode::WantExternal(0, Items::new(alloc)),
+    };
     for (i, token) in tokens.iter().enumerate() {
-        match one_token(alloc, id, end, mode, token) {
+        match take_token(alloc, state, end, token) {
             Ok(next) => {
-                id = next.id;
-                mode = next.mode;
+                state = next;
                 end = token.span.end;
             }
-            Err(StepEnd::Wrong) => return Err(ParseEnd::Syntax(i as u32)),
-            Err(StepEnd::NoMemory) => return Err(ParseEnd::NoMemory),
+            Err(Refused::Wrong) => return Err(ParseEnd::Syntax(i as u32)),
+            Err(Refused::TooDeep) => return Err(ParseEnd::TooDeep),
+            Err(Refused::NoMemory) => return Err(ParseEnd::NoMemory),
         }
     }
-    Ok(Next { id, mode })
+    Ok(state)
 }
 
 /// Lets what was read so far go.
@@ -75,29 +130,28 @@ fn refuse<T: Drop>(_: T, count: u32) -> Result<Unit, ParseEnd>
     Err(ParseEnd::Syntax(count))
 }
 
-#[tactic(auto, unfolding(crate::specs::Inside::shown_external))]
+#[tactic(auto, unfolding(c_stack::specs::Shown::shown_external))]
 fn unit_of(mode: Mode, count: u32) -> Result<Unit, ParseEnd>
-    ensures { Ended result (view_mode mode) }
+    ensures { Ended result count (view_mode mode) }
 {
     match mode {
-        Mode::WantExternal(items) => Ok(Unit { items }),
-        Mode::WantLong(_, k) => refuse(k, count),
-        Mode::WantDeclarator(k) => refuse(k, count),
-        Mode::AfterDeclarator(_, k, d) => refuse((k, d), count),
-        Mode::WantParam(k) => refuse(k, count),
-        Mode::WantLocal(k) => refuse(k, count),
-        Mode::WantStatement(k) => refuse(k, count),
-        Mode::WantExpr(k) => refuse(k, count),
-        Mode::AfterExpr(_, k, a) => refuse((k, a), count),
-        Mode::ArgsOpened(_, f, k) => refuse((f, k), count),
+        Mode::WantExternal(_, items) => Ok(Unit { items }),
+        Mode::Attribute(_, m, a) => refuse((m, a), count),
+        Mode::Specs(m) => refuse(m, count),
+        Mode::Declarator(m) => refuse(m, count),
+        Mode::AfterAttributes(r) => refuse(r, count),
+        Mode::WantInit(k) => refuse(k, count),
+        Mode::AfterInit(_, k, i) => refuse((k, i), count),
+        Mode::Expr(m) => refuse(m, count),
+        Mode::Stmt(m) => refuse(m, count),
     }
 }
 
-fn finish(read: Result<Next, ParseEnd>, count: u32) -> Result<Unit, ParseEnd>
-    ensures { Finished read result }
+fn finish(read: Result<State, ParseEnd>, count: u32) -> Result<Unit, ParseEnd>
+    ensures { Finished read count result }
 {
     match read {
-        Ok(next) => unit_of(next.mode, count),
+        Ok(state) => unit_of(state.mode, count),
         Err(e) => Err(e),
     }
 }
@@ -109,14 +163,16 @@ fn read_unit(alloc: Global, tokens: &[Token]) -> Result<Unit, ParseEnd>
     finish(read_tokens(alloc, tokens), tokens.len() as u32)
 }
 
-/// The unit that the tokens spell, with the place and the number of each node; `Syntax` where they spell none.
+/// The unit that the tokens spell, with the place and the number of each node. `Syntax` where they spell
+/// none, with the number of those that begin a unit before one that cannot follow them; `TooDeep` where
+/// some first ones of them begin no unit of at most 200 nodes' depth.
 pub fn parse(alloc: Global, tokens: &Items<Token>) -> Result<Unit, ParseEnd>
     requires short { length tokens.now < 2 ^ 24 }
     requires valid { All (λ t. IsToken t.kind t.text) tokens.now }
-    ensures found { IfOk result (λ u. IsParsed (bare_unit (view_unit u)) (map lexeme_of tokens.now)) }
-    ensures only { (u : List External) → IsSmall u → spelled u ≡ map lexeme_of tokens.now → Reads u result }
-    ensures syntax { (k : ℕ) → result ≡ Err (ParseEnd.Syntax k) → (u : List External) → IsSmall u → spelled u ≡ map lexeme_of tokens.now → ⊥ }
-    ensures flat { result ≡ Err ParseEnd.TooDeep → ⊥ }
+    ensures found { IfOk result (λ u. IsParsed (map lexeme_of tokens.now) (bare_unit (view_unit u))) }
+    ensures only { (u : List External) → Reads (map lexeme_of tokens.now) u → IsFlat u → Answers u result }
+    ensures syntax { (k : ℕ) → result ≡ Err (ParseEnd.Syntax k) → IsWrongAt (map lexeme_of tokens.now) k }
+    ensures too_deep { result ≡ Err ParseEnd.TooDeep → IsTooDeep (map lexeme_of tokens.now) }
     ensures numbered { IfOk result (λ u. IsNumbered (view_unit u)) }
     ensures placed { IfOk result (λ u. IsPlaced (map (λ t. t.span) tokens.now) (view_unit u)) }
 {

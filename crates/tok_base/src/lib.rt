@@ -17,7 +17,7 @@ pub use memory::{MemFiles, MemSink};
 pub use real::{RealFiles, RealSink};
 pub use sink::{Sink, WriteEnd, write_whole};
 pub use sqlite_items::{Boxed, Items};
-pub use status::Status;
+pub use status::{Status, Which};
 pub use token::{Kind, Lexeme, Span, Token};
 
 #[cfg(test)]

@@ -2,7 +2,7 @@
 
 use super::{
     Bytes, Failed, Files, Items, MemFiles, MemSink, ReadEnd, RealFiles, RealSink, Reserved, Sink,
-    Status, write_whole,
+    Status, Which, write_whole,
 };
 use std::fs;
 use std::test::Fail;
@@ -101,5 +101,8 @@ fn each_status_has_its_number(rt: HostRuntime) {
     assert_eq!(rt; Status::FileFault.code(), 3);
     assert_eq!(rt; Status::WriteFault.code(), 5);
     assert_eq!(rt; Status::NoMemory.code(), 10);
-    assert_eq!(rt; Status::NotBuilt.code(), 19);
+    assert_eq!(rt; Status::TooLong(Which::Unit).code(), 6);
+    assert_eq!(rt; Status::Lex(3).code(), 7);
+    assert_eq!(rt; Status::Syntax(3).code(), 8);
+    assert_eq!(rt; Status::TooDeep.code(), 15);
 }

@@ -1,18 +1,19 @@
 use Rattle.std.proofs.Common.{subst}
 use Rattle.c_parser.specs.Parsed.{Parsed}
-use Rattle.c_parser.proofs.Told.{found, only, syntax, flat, numbered, placed}
+use Rattle.c_parser.proofs.Told.{found, only, syntax, too_deep, numbered, placed}
 use Rattle.c_parser.proofs.reader.parse.Goals as goal
 
 pub returns : goal.returns
 returns c =
-    let r = c.read_unit.result in
+    let x = c.read_unit.result in
     let ts = c.args.tokens.now in
-    let h = subst (λ s. Parsed r s) c.as_slice.ensures c.read_unit.ensures in
+    let a = c.requires.valid in
+    let h = subst (λ s. Parsed x s) c.as_slice.ensures c.read_unit.ensures in
     record {
-      found = found r ts c.requires.valid h;
-      only = only r ts h;
-      syntax = syntax r ts h;
-      flat = flat r ts h;
-      numbered = numbered r ts h;
-      placed = placed r ts h;
+      found = found x ts a h;
+      only = only x ts a h;
+      syntax = syntax x ts a h;
+      too_deep = too_deep x ts a h;
+      numbered = numbered x ts a h;
+      placed = placed x ts a h;
     }

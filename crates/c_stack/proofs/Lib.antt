@@ -1,0 +1,4 @@
+pub mod Chunks
+pub mod Index
+pub mod Listed
+pub mod Words

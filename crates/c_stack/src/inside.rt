@@ -1,0 +1,420 @@
+//! The stack: where a part stands that is still to come, the innermost node first, and where the reader is.
+
+ghost use Rattle.std.specs.Prelude.{◌≡◌, None};
+ghost use Rattle.c_stack.specs.declared.inside.Mode.TheVariants as modes;
+
+use crate::symbol::{Member, Tagged};
+use c_tree::{
+    AssignOp, Attribute, AttributeArgument, BinaryOp, BlockItem, Declarator, Entry, Enumerator,
+    Expr, External, Field, ForFirst, Init, Item, Param, PrefixOp, Qualifier, Spec, Stmt, TypeName,
+};
+use std::convert::Infallible;
+use tok_base::{Bytes, Items};
+
+/// A node that is open: the byte where it begins, how many nodes hold what stands in it (its own
+/// included), and the greatest depth of its parts so far.
+#[derive(Clone, Copy, Debug)]
+pub struct Open {
+    pub from: u32,
+    pub level: u32,
+    pub deep: u32,
+}
+
+/// A part that was read: the byte where it begins, and its depth.
+#[derive(Clone, Copy, Debug)]
+pub struct Had {
+    pub from: u32,
+    pub deep: u32,
+}
+
+// ---- statements and declarations
+
+/// The items of a declaration so far: its specifiers, and whether they make typedef names.
+#[derive(Drop)]
+pub struct ItemsRead {
+    pub node: Open,
+    pub specs: Items<Spec>,
+    pub typedef: bool,
+    pub items: Items<Item>,
+}
+
+/// An item without its initialiser, behind these.
+#[derive(Drop)]
+pub struct ItemHead {
+    pub node: Open,
+    pub before: ItemsRead,
+    pub declarator: Declarator,
+    pub attributes: Items<Attribute>,
+}
+
+/// Where a statement is still to come.
+#[cycle(inside)]
+#[derive(Drop)]
+pub enum InStmt {
+    /// In braces, behind these items.
+    Block(Open, Items<BlockItem>, Box<InBody>),
+    Then(Open, Expr, Box<InStmt>),
+    Else(Open, Expr, Stmt, Box<InStmt>),
+    While(Open, Expr, Box<InStmt>),
+    Do(Open, Box<InStmt>),
+    For(Open, ForFirst, Option<Expr>, Option<Expr>, Box<InStmt>),
+}
+
+/// Where the braces of a block stand: behind a function's declarator, or as a statement. The number is the
+/// greatest depth of the external declarations before.
+#[cycle(inside)]
+#[derive(Drop)]
+pub enum InBody {
+    Definition(u32, Open, Items<External>, Items<Spec>, Declarator),
+    Stmt(Box<InStmt>),
+    /// No value has it: the grammar has no statement in an expression. It makes the types of the stack one
+    /// cycle, whose parts the checker then lays out once.
+    Never(Infallible, Box<InExpr>),
+}
+
+/// Where a declaration is still to come.
+#[cycle(inside)]
+#[derive(Drop)]
+pub enum InDeclaration {
+    External(u32, Items<External>),
+    Block(Open, Items<BlockItem>, Box<InBody>),
+    For(Open, Box<InStmt>),
+}
+
+/// Where an initialiser is still to come.
+#[cycle(inside)]
+#[derive(Drop)]
+pub enum InInit {
+    Item(ItemHead, Box<InDeclaration>),
+    Braces(Open, Items<Init>, Box<InInit>),
+}
+
+/// Where an item of a declaration is still to come.
+#[derive(Drop)]
+pub struct InItems {
+    pub read: ItemsRead,
+    pub place: Box<InDeclaration>,
+}
+
+/// An item without its initialiser, and where its declaration stands.
+#[derive(Drop)]
+pub struct ItemRead {
+    pub head: ItemHead,
+    pub place: Box<InDeclaration>,
+}
+
+/// The condition of a statement.
+#[derive(Drop)]
+pub enum Condition {
+    If,
+    While,
+    /// Of `do`, whose body was read.
+    Do(Stmt),
+}
+
+/// The expression of a statement.
+#[derive(Drop)]
+pub enum Part {
+    Plain,
+    Returned,
+    Condition(Condition),
+    ForFirst,
+    ForCondition(ForFirst),
+    ForStep(ForFirst, Option<Expr>),
+}
+
+// ---- expressions, specifiers and declarators
+
+/// An operator whose last operand is still to come.
+#[derive(Drop)]
+pub enum Operand {
+    Prefix(PrefixOp),
+    Sizeof,
+    Cast(TypeName),
+    Binary(Expr, BinaryOp),
+    Assign(Expr, AssignOp),
+    Comma(Expr),
+    /// The condition and the middle of `c ? a : b`.
+    Cond(Expr, Expr),
+}
+
+/// What is called: an expression, or `__builtin_infer_alloc_token`.
+#[derive(Drop)]
+pub enum Callee {
+    Function(Expr),
+    Builtin,
+}
+
+/// What a bracket closes, or the colon of `c ? a : b`.
+#[derive(Drop)]
+pub enum Bracket {
+    Paren,
+    Index(Expr),
+    Args(Callee, Items<Expr>),
+    Middle(Expr),
+}
+
+/// A type name in parentheses.
+#[derive(Clone, Copy, Debug)]
+pub enum TypePlace {
+    Cast,
+    Sizeof,
+}
+
+/// Specifiers so far: the node that they begin, whether a type is among them, and whether they make
+/// typedef names.
+#[derive(Drop)]
+pub struct SpecsRead {
+    pub node: Open,
+    pub specs: Items<Spec>,
+    pub seen: bool,
+    pub typedef: bool,
+}
+
+/// A record among specifiers, and its fields so far.
+#[derive(Drop)]
+pub struct RecordRead {
+    pub node: Open,
+    pub is_union: bool,
+    pub tag: Option<Bytes>,
+    pub fields: Items<Field>,
+    pub specs: SpecsRead,
+}
+
+/// An enumeration among specifiers, and its enumerators so far.
+#[derive(Drop)]
+pub struct EnumRead {
+    pub node: Open,
+    pub tag: Option<Bytes>,
+    pub list: Items<Enumerator>,
+    pub specs: SpecsRead,
+}
+
+/// A declarator and its parameters so far.
+#[derive(Drop)]
+pub struct ParamsRead {
+    pub node: Open,
+    pub declarator: Declarator,
+    pub params: Items<Param>,
+}
+
+/// Where an expression is still to come.
+#[cycle(inside)]
+#[derive(Drop)]
+pub enum InExpr {
+    Operand(Open, Operand, Box<InExpr>),
+    Bracket(Open, Bracket, Box<InExpr>),
+    Stmt(Open, Part, Box<InStmt>),
+    Init(Box<InInit>),
+    /// The value of an enumerator.
+    Value(Open, Bytes, EnumRead, Box<InSpecs>),
+    /// The length of an array.
+    Array(Open, Declarator, Box<InDeclarator>),
+}
+
+/// Where a declarator is still to come.
+#[cycle(inside)]
+#[derive(Drop)]
+pub enum InDeclarator {
+    Pointer(Open, Items<Qualifier>, Box<InDeclarator>),
+    Group(Open, Box<InDeclarator>),
+    Item(ItemsRead, Box<InDeclaration>),
+    Field(Open, RecordRead, Box<InSpecs>, Items<Spec>, Items<Declarator>),
+    Param(Open, ParamsRead, Box<InDeclarator>, Items<Spec>),
+    /// In a type name; the outer node is the cast or the `sizeof`.
+    Type(Open, Open, TypePlace, Box<InExpr>, Items<Spec>),
+}
+
+/// Where specifiers are still to come.
+#[cycle(inside)]
+#[derive(Drop)]
+pub enum InSpecs {
+    Declaration(Box<InDeclaration>),
+    Field(RecordRead, Box<InSpecs>),
+    Param(ParamsRead, Box<InDeclarator>),
+    Type(Open, TypePlace, Box<InExpr>),
+}
+
+/// Where a field of a record is still to come.
+#[derive(Drop)]
+pub struct InFields {
+    pub read: RecordRead,
+    pub place: Box<InSpecs>,
+}
+
+/// Where an enumerator is still to come.
+#[derive(Drop)]
+pub struct InEnum {
+    pub read: EnumRead,
+    pub place: Box<InSpecs>,
+}
+
+/// Where a parameter is still to come.
+#[derive(Drop)]
+pub struct InParams {
+    pub read: ParamsRead,
+    pub place: Box<InDeclarator>,
+}
+
+/// Where an attribute stands.
+#[derive(Drop)]
+pub enum InAttribute {
+    Specs(SpecsRead, Box<InSpecs>),
+    Read(ItemRead),
+}
+
+// ---- where the reader is
+
+/// An argument of an attribute before it ends.
+#[derive(Drop)]
+pub enum ArgumentRead {
+    Number(Bytes),
+    Text(Items<Bytes>),
+}
+
+/// Where the reader is in an attribute: its word, its two parentheses, its entries and their arguments.
+#[derive(Drop)]
+pub enum AttributeMode {
+    Word,
+    Opened,
+    EntriesOpened,
+    WantEntry(Items<Entry>),
+    AfterEntryName(Items<Entry>, Bytes),
+    ArgumentsOpened(Items<Entry>, Bytes),
+    WantArgument(Items<Entry>, Bytes, Items<AttributeArgument>),
+    AfterArgument(u32, Items<Entry>, Bytes, Items<AttributeArgument>, ArgumentRead),
+    AfterEntry(Items<Entry>),
+    Closing(Items<Entry>),
+}
+
+/// Where the reader is among specifiers, or in a record, an enumeration or a list of parameters that opens there.
+#[derive(Drop)]
+pub enum SpecsMode {
+    InSpecs(SpecsRead, Box<InSpecs>),
+    /// `struct`, `union` or `enum`
+    AfterTagged(Open, Tagged, SpecsRead, Box<InSpecs>),
+    AfterTag(Open, Tagged, Bytes, SpecsRead, Box<InSpecs>),
+    WantField(InFields),
+    WantEnumerator(InEnum),
+    AfterEnumerator(Open, Bytes, InEnum),
+    WantParam(InParams),
+}
+
+/// Where the reader is in a declarator.
+#[derive(Drop)]
+pub enum DeclaratorMode {
+    WantDeclarator(Box<InDeclarator>),
+    AfterStar(Open, Items<Qualifier>, Box<InDeclarator>),
+    /// `(`
+    Opened(Open, Box<InDeclarator>),
+    AfterDeclarator(Had, Box<InDeclarator>, Declarator),
+    ArrayOpened(Open, Declarator, Box<InDeclarator>),
+    ParamsOpened(Open, Declarator, Box<InDeclarator>),
+}
+
+/// Where the reader is in an expression.
+#[derive(Drop)]
+pub enum ExprMode {
+    WantExpr(Box<InExpr>),
+    AfterExpr(Had, Box<InExpr>, Expr),
+    AfterText(u32, Box<InExpr>, Items<Bytes>),
+    /// `(`
+    Opened(Open, Box<InExpr>),
+    AfterSizeof(Open, Box<InExpr>),
+    /// `sizeof (`; where the parenthesis stands
+    SizeofOpened(Open, u32, Box<InExpr>),
+    ArgsOpened(Open, Expr, Box<InExpr>),
+    AfterBuiltin(Open, Box<InExpr>),
+    WantMember(Open, Expr, Member, Box<InExpr>),
+}
+
+/// A statement that lacks its semicolon.
+#[derive(Drop)]
+pub enum Unended {
+    Broken,
+    Continued,
+    DoneWhile(Stmt, Expr),
+}
+
+/// Where the reader is in a statement.
+#[derive(Drop)]
+pub enum StmtMode {
+    WantStmt(Box<InStmt>),
+    AfterStmt(u32, Box<InStmt>, Stmt),
+    WantParen(Open, Condition, Box<InStmt>),
+    AfterFor(Open, Box<InStmt>),
+    ForOpened(Open, Box<InStmt>),
+    WantCondition(Open, ForFirst, Box<InStmt>),
+    WantStep(Open, ForFirst, Option<Expr>, Box<InStmt>),
+    WantSemi(Open, Unended, Box<InStmt>),
+    AfterReturn(Open, Box<InStmt>),
+}
+
+/// Where the reader is: what the next token may be a part of.
+#[derive(Drop)]
+pub enum Mode {
+    WantExternal(u32, Items<External>),
+    Attribute(Open, AttributeMode, InAttribute),
+    Specs(SpecsMode),
+    Declarator(DeclaratorMode),
+    AfterAttributes(ItemRead),
+    WantInit(Box<InInit>),
+    AfterInit(u32, Box<InInit>, Init),
+    Expr(ExprMode),
+    Stmt(StmtMode),
+}
+
+/// Where the reader is after a token: the number of the next node, a name that the token made a typedef
+/// name, and the mode.
+#[derive(Drop)]
+pub struct Next {
+    pub id: u32,
+    pub name: Option<Bytes>,
+    pub mode: Mode,
+}
+
+impl Next {
+    /// At a place among specifiers; no name was made.
+    pub fn at_specs(id: u32, mode: SpecsMode) -> Next
+        ensures { result ≡ record { id = id; name = None; mode = modes.Specs mode } }
+    {
+        Next {
+            id,
+            name: None,
+            mode: Mode::Specs(mode),
+        }
+    }
+
+    /// At a place in a declarator.
+    pub fn at_declarator(id: u32, mode: DeclaratorMode) -> Next
+        ensures { result ≡ record { id = id; name = None; mode = modes.Declarator mode } }
+    {
+        Next {
+            id,
+            name: None,
+            mode: Mode::Declarator(mode),
+        }
+    }
+
+    /// At a place in an expression.
+    pub fn at_expr(id: u32, mode: ExprMode) -> Next
+        ensures { result ≡ record { id = id; name = None; mode = modes.Expr mode } }
+    {
+        Next {
+            id,
+            name: None,
+            mode: Mode::Expr(mode),
+        }
+    }
+
+    /// At a place in a statement.
+    pub fn at_stmt(id: u32, mode: StmtMode) -> Next
+        ensures { result ≡ record { id = id; name = None; mode = modes.Stmt mode } }
+    {
+        Next {
+            id,
+            name: None,
+            mode: Mode::Stmt(mode),
+        }
+    }
+}

@@ -1,0 +1,15 @@
+//! What is open while a unit of C is read: the reader's stack, its tokens, and the parts of the tree.
+#![tactic(auto)]
+
+pub mod declarator;
+pub mod height;
+pub mod inside;
+pub mod levels;
+pub mod make;
+pub mod names;
+pub mod open;
+pub mod parts;
+pub mod specs_read;
+pub mod statements;
+pub mod step;
+pub mod symbol;

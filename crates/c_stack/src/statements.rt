@@ -1,0 +1,270 @@
+//! Declarations and statements, each with what it is seen as.
+
+ghost use Rattle.std.specs.Prelude.{◌≡◌, [], ◌∷◌, ◌++◌, IfOk, map};
+ghost use Rattle.c_reader.specs.MarkedParts as reader;
+ghost use Rattle.c_tree.specs.Marked as marked;
+ghost use Rattle.c_stack.specs.Shown.{shown, shown_attribute, shown_block_item, shown_declaration, shown_declarator, shown_external, shown_first, shown_init, shown_item, shown_maybe, shown_maybe_init, shown_specs, shown_stmt};
+
+use c_tree::{
+    At, Attribute, Block, BlockItem, Declaration, Declarator, Definition, Expr, External, ForFirst,
+    Init, Item, Spec, Stmt, make,
+};
+use std::alloc::{AllocError, Global};
+use tok_base::Items;
+
+// ---- initialisers and declarations
+
+/// An expression as an initialiser.
+#[tactic(auto, unfolding(crate::specs::Shown::shown_init, crate::specs::Shown::shown))]
+pub fn plain_init(a: Expr) -> Init
+    ensures { shown_init result ≡ marked.Plain (shown a) }
+{
+    Init::Expr(a)
+}
+
+/// `{ list }`, with a comma behind the list where it has one
+pub fn braces(at: At, list: Items<Init>, has_comma: bool) -> Init
+    ensures { shown_init result ≡ marked.Braces at (reader.inits_of (map shown_init list)) has_comma }
+{
+    make::braces(at, list, has_comma)
+}
+
+/// The initialisers with one more.
+pub fn with_init(mut list: Items<Init>, i: Init) -> Result<Items<Init>, AllocError>
+    ensures { IfOk result (λ is. map shown_init is ≡ map shown_init list ++ shown_init i ∷ []) }
+{
+    list.push(i)?;
+    Ok(list)
+}
+
+/// The initialiser of an item that has none.
+#[tactic(auto, unfolding(crate::specs::Shown::shown_maybe_init))]
+pub fn no_init() -> Option<Init>
+    ensures { shown_maybe_init result ≡ marked.no_init }
+{
+    None
+}
+
+/// The initialiser of an item.
+#[tactic(auto, unfolding(crate::specs::Shown::shown_maybe_init, crate::specs::Shown::shown_init))]
+pub fn some_init(i: Init) -> Option<Init>
+    ensures { shown_maybe_init result ≡ marked.some_init (shown_init i) }
+{
+    Some(i)
+}
+
+/// An item of a declaration.
+#[tactic(auto, unfolding(crate::specs::Shown::shown_item, crate::specs::Shown::shown_declarator, crate::specs::Shown::shown_attribute, crate::specs::Shown::shown_maybe_init))]
+pub fn item(
+    at: At,
+    declarator: Declarator,
+    attributes: Items<Attribute>,
+    init: Option<Init>,
+) -> Item
+    ensures { shown_item result ≡ record { at = at; declarator = shown_declarator declarator; attributes = map shown_attribute attributes; init = shown_maybe_init init } }
+{
+    Item {
+        at,
+        declarator,
+        attributes,
+        init,
+    }
+}
+
+/// The items with one more.
+pub fn with_item(mut items: Items<Item>, i: Item) -> Result<Items<Item>, AllocError>
+    ensures { IfOk result (λ is. map shown_item is ≡ map shown_item items ++ shown_item i ∷ []) }
+{
+    items.push(i)?;
+    Ok(items)
+}
+
+/// A declaration.
+#[tactic(auto, unfolding(crate::specs::Shown::shown_declaration, crate::specs::Shown::shown_specs, crate::specs::Shown::shown_item))]
+pub fn declaration(at: At, specs: Items<Spec>, items: Items<Item>) -> Declaration
+    ensures { shown_declaration result ≡ record { at = at; specs = shown_specs specs; items = map shown_item items } }
+{
+    Declaration { at, specs, items }
+}
+
+// ---- statements
+
+/// `{ items }`
+pub fn block(at: At, items: Items<BlockItem>) -> Stmt
+    ensures { shown_stmt result ≡ marked.Block at (reader.items_of (map shown_block_item items)) }
+{
+    make::block(at, items)
+}
+
+/// A declaration as an item of a block.
+#[tactic(auto, unfolding(crate::specs::Shown::shown_block_item, crate::specs::Shown::shown_declaration))]
+pub fn declared_item(d: Declaration) -> BlockItem
+    ensures { shown_block_item result ≡ reader.declared (shown_declaration d) }
+{
+    BlockItem::Declaration(d)
+}
+
+/// A statement as an item of a block.
+#[tactic(auto, unfolding(crate::specs::Shown::shown_block_item, crate::specs::Shown::shown_stmt))]
+pub fn statement_item(s: Stmt) -> BlockItem
+    ensures { shown_block_item result ≡ reader.statement (shown_stmt s) }
+{
+    BlockItem::Stmt(s)
+}
+
+/// The items of a block with one more.
+pub fn with_block_item(
+    mut items: Items<BlockItem>,
+    i: BlockItem,
+) -> Result<Items<BlockItem>, AllocError>
+    ensures { IfOk result (λ is. map shown_block_item is ≡ map shown_block_item items ++ shown_block_item i ∷ []) }
+{
+    items.push(i)?;
+    Ok(items)
+}
+
+/// `;`
+#[tactic(auto, unfolding(crate::specs::Shown::shown_stmt))]
+pub fn empty(at: At) -> Stmt
+    ensures { shown_stmt result ≡ marked.ExprStmt at marked.no_expr }
+{
+    Stmt::Expr(at, None)
+}
+
+/// `a;`
+#[tactic(auto, unfolding(crate::specs::Shown::shown_stmt, crate::specs::Shown::shown))]
+pub fn plain(at: At, a: Expr) -> Stmt
+    ensures { shown_stmt result ≡ marked.ExprStmt at (marked.some_expr (shown a)) }
+{
+    Stmt::Expr(at, Some(a))
+}
+
+/// `if (c) s`
+#[tactic(auto, unfolding(crate::specs::Shown::shown_stmt, crate::specs::Shown::shown))]
+pub fn if_(alloc: Global, at: At, c: Expr, s: Stmt) -> Result<Stmt, AllocError>
+    ensures { IfOk result (λ x. shown_stmt x ≡ marked.If at (shown c) (shown_stmt s)) }
+{
+    let s = Box::new(alloc, s)?;
+    Ok(Stmt::If(at, c, s))
+}
+
+/// `if (c) s else t`
+#[tactic(auto, unfolding(crate::specs::Shown::shown_stmt, crate::specs::Shown::shown))]
+pub fn if_else(alloc: Global, at: At, c: Expr, s: Stmt, t: Stmt) -> Result<Stmt, AllocError>
+    ensures { IfOk result (λ x. shown_stmt x ≡ marked.IfElse at (shown c) (shown_stmt s) (shown_stmt t)) }
+{
+    let s = Box::new(alloc, s)?;
+    let t = Box::new(alloc, t)?;
+    Ok(Stmt::IfElse(at, c, s, t))
+}
+
+/// `while (c) s`
+#[tactic(auto, unfolding(crate::specs::Shown::shown_stmt, crate::specs::Shown::shown))]
+pub fn while_(alloc: Global, at: At, c: Expr, s: Stmt) -> Result<Stmt, AllocError>
+    ensures { IfOk result (λ x. shown_stmt x ≡ marked.While at (shown c) (shown_stmt s)) }
+{
+    let s = Box::new(alloc, s)?;
+    Ok(Stmt::While(at, c, s))
+}
+
+/// `do s while (c);`
+#[tactic(auto, unfolding(crate::specs::Shown::shown_stmt, crate::specs::Shown::shown))]
+pub fn do_while(alloc: Global, at: At, s: Stmt, c: Expr) -> Result<Stmt, AllocError>
+    ensures { IfOk result (λ x. shown_stmt x ≡ marked.Do at (shown_stmt s) (shown c)) }
+{
+    let s = Box::new(alloc, s)?;
+    Ok(Stmt::Do(at, s, c))
+}
+
+/// `for (first c; step) s`, where the first part has its semicolon
+#[tactic(auto, unfolding(crate::specs::Shown::shown_stmt, crate::specs::Shown::shown_first, crate::specs::Shown::shown_maybe))]
+pub fn for_(
+    alloc: Global,
+    at: At,
+    first: ForFirst,
+    c: Option<Expr>,
+    step: Option<Expr>,
+    s: Stmt,
+) -> Result<Stmt, AllocError>
+    ensures { IfOk result (λ x. shown_stmt x ≡ marked.For at (shown_first first) (shown_maybe c) (shown_maybe step) (shown_stmt s)) }
+{
+    let s = Box::new(alloc, s)?;
+    Ok(Stmt::For(at, first, c, step, s))
+}
+
+/// A declaration as the first part of `for`.
+#[tactic(auto, unfolding(crate::specs::Shown::shown_first, crate::specs::Shown::shown_declaration))]
+pub fn first_declaration(d: Declaration) -> ForFirst
+    ensures { shown_first result ≡ marked.FirstDeclaration (shown_declaration d) }
+{
+    ForFirst::Declaration(d)
+}
+
+/// An expression, which may be absent, as the first part of `for`.
+#[tactic(auto, unfolding(crate::specs::Shown::shown_first, crate::specs::Shown::shown_maybe))]
+pub fn first_expr(a: Option<Expr>) -> ForFirst
+    ensures { shown_first result ≡ marked.FirstExpr (shown_maybe a) }
+{
+    ForFirst::Expr(a)
+}
+
+/// `break;`
+#[tactic(auto, unfolding(crate::specs::Shown::shown_stmt))]
+pub fn break_(at: At) -> Stmt
+    ensures { shown_stmt result ≡ marked.Break at }
+{
+    Stmt::Break(at)
+}
+
+/// `continue;`
+#[tactic(auto, unfolding(crate::specs::Shown::shown_stmt))]
+pub fn continue_(at: At) -> Stmt
+    ensures { shown_stmt result ≡ marked.Continue at }
+{
+    Stmt::Continue(at)
+}
+
+/// `return a;` or `return;`
+#[tactic(auto, unfolding(crate::specs::Shown::shown_stmt, crate::specs::Shown::shown_maybe))]
+pub fn return_(at: At, a: Option<Expr>) -> Stmt
+    ensures { shown_stmt result ≡ marked.Return at (shown_maybe a) }
+{
+    Stmt::Return(at, a)
+}
+
+// ---- the unit
+
+/// A declaration among the external ones.
+#[tactic(auto, unfolding(crate::specs::Shown::shown_external, crate::specs::Shown::shown_declaration))]
+pub fn declares(d: Declaration) -> External
+    ensures { shown_external result ≡ marked.Declares (shown_declaration d) }
+{
+    External::Declaration(d)
+}
+
+/// `specs declarator { items }`
+pub fn defines(
+    at: At,
+    specs: Items<Spec>,
+    declarator: Declarator,
+    body_at: At,
+    items: Items<BlockItem>,
+) -> External
+    ensures { shown_external result ≡ marked.Definition at (shown_specs specs) (shown_declarator declarator) body_at (reader.items_of (map shown_block_item items)) }
+{
+    let body = Block { at: body_at, items };
+    External::Definition(Definition {
+        at,
+        specs,
+        declarator,
+        body,
+    })
+}
+
+/// The external declarations with one more.
+pub fn with_external(mut done: Items<External>, x: External) -> Result<Items<External>, AllocError>
+    ensures { IfOk result (λ xs. map shown_external xs ≡ map shown_external done ++ shown_external x ∷ []) }
+{
+    done.push(x)?;
+    Ok(done)
+}

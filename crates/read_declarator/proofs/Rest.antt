@@ -1,0 +1,81 @@
+-- Declarations and declarators: what a step does with the tokens that have no case of their own.
+use Rattle.std.proofs.Common.{◌≡◌, ℕ, suc, true, false, if◌then◌else◌, List, [], ◌∷◌, Bor, refl}
+use Rattle.tok_base.specs.declared.token.Span.{Span}
+use Rattle.c_tree.specs.Tok.{Word}
+use Rattle.c_tree.specs.Marked as u
+use Rattle.c_tree.specs.Wf.{Env}
+use Rattle.c_tree.specs.declared.operator.Keyword.{Keyword}
+use Rattle.c_reader.specs.Begin.{begins_specs}
+use Rattle.c_reader.specs.MarkedParts.{Open, Had, takes}
+use Rattle.c_reader.specs.MarkedInside as r
+use Rattle.c_reader.specs.MarkedBegin as begin
+use Rattle.c_reader.specs.MarkedDeclarations as d
+use Rattle.c_reader.specs.MarkedDeclarators as m
+use Rattle.c_stack.specs.Seen.{view_symbol}
+use Rattle.c_stack.specs.declared.symbol.Symbol.{Symbol}
+use Rattle.c_stack.specs.declared.symbol.Symbol.TheVariants as s
+use Rattle.c_stack.specs.declared.symbol.Operator.{Operator}
+
+-- ---- declarations
+
+pub item_rest : (n e : ℕ) (env : Env) (x : r.ItemRead) (y : Symbol) (at : Span)
+    → (y ≡ s.Attribute → ⊥) → ((o : Operator) → y ≡ s.Operator o → ⊥)
+    → d.item_next n e env x (view_symbol y) at ≡ d.item_end (suc n) env (d.add_item n e 0 x u.no_init) (view_symbol y) at
+item_rest n e env x s.Attribute at a b = absurd (a refl)
+item_rest n e env x (s.Operator o) at a b = absurd (b o refl)
+item_rest n e env x _ at a b = refl
+
+pub item_declarator_rest : (n e : ℕ) (env : Env) (h : Had) (q : r.InItems) (x : u.Declarator) (y : Symbol) (at : Span)
+    → (y ≡ s.LeftBrace → ⊥)
+    → d.item_declarator_next n e env h q x (view_symbol y) at ≡ d.item_next n e env (record { node = takes q.node.level h; before = q; declarator = x; attributes = [] }) (view_symbol y) at
+item_declarator_rest n e env h q x s.LeftBrace at a = absurd (a refl)
+item_declarator_rest n e env h q x _ at a = refl
+
+pub init_rest : (n : ℕ) (env : Env) (k : r.InInit) (y : Symbol) (at : Span)
+    → (y ≡ s.LeftBrace → ⊥) → (y ≡ s.RightBrace → ⊥)
+    → d.init_begin n env k (view_symbol y) at ≡ begin.want n env (r.in_init k) (view_symbol y) at
+init_rest n env k s.LeftBrace at a b = absurd (a refl)
+init_rest n env k s.RightBrace at a b = absurd (b refl)
+init_rest n env k _ at a b = refl
+
+-- ---- declarators
+
+pub begin_rest : (n e : ℕ) (env : Env) (k : r.InDeclarator) (y : Symbol) (at : Span)
+    → ((x : Bor (List ℕ)) → y ≡ s.Name x → ⊥) → ((o : Operator) → y ≡ s.Operator o → ⊥) → (y ≡ s.LeftParen → ⊥) → (y ≡ s.LeftBracket → ⊥)
+    → m.declarator_begin n e env k (view_symbol y) at ≡ m.nameless n e env k (view_symbol y) at
+begin_rest n e env k (s.Name x) at a b f g = absurd (a x refl)
+begin_rest n e env k (s.Operator o) at a b f g = absurd (b o refl)
+begin_rest n e env k s.LeftParen at a b f g = absurd (f refl)
+begin_rest n e env k s.LeftBracket at a b f g = absurd (g refl)
+begin_rest n e env k _ at a b f g = refl
+
+pub star_rest : (n e : ℕ) (env : Env) (o : Open) (qs : List Word) (k : r.InDeclarator) (y : Symbol) (at : Span)
+    → ((w : Keyword) → y ≡ s.Keyword w → ⊥)
+    → m.star_next n e env o qs k (view_symbol y) at ≡ m.declarator_begin n e env (r.in_pointer o qs k) (view_symbol y) at
+star_rest n e env o qs k (s.Keyword w) at a = absurd (a w refl)
+star_rest n e env o qs k _ at a = refl
+
+pub opened_rest : (n e : ℕ) (env : Env) (o : Open) (k : r.InDeclarator) (y : Symbol) (at : Span)
+    → (y ≡ s.RightParen → ⊥)
+    → m.opened_next n e env o k (view_symbol y) at ≡ (if begins_specs env false (view_symbol y) then m.open_params n env o k (view_symbol y) at else m.declarator_begin n e env (r.in_group o k) (view_symbol y) at)
+opened_rest n e env o k s.RightParen at a = absurd (a refl)
+opened_rest n e env o k _ at a = refl
+
+pub array_rest : (n : ℕ) (env : Env) (o : Open) (x : u.Declarator) (k : r.InDeclarator) (y : Symbol) (at : Span)
+    → (y ≡ s.RightBracket → ⊥)
+    → m.array_next n env o x k (view_symbol y) at ≡ begin.want n env (r.in_array o x k) (view_symbol y) at
+array_rest n env o x k s.RightBracket at a = absurd (a refl)
+array_rest n env o x k _ at a = refl
+
+pub params_rest : (n : ℕ) (env : Env) (o : Open) (x : u.Declarator) (k : r.InDeclarator) (y : Symbol) (at : Span)
+    → (y ≡ s.RightParen → ⊥)
+    → m.params_next n env o x k (view_symbol y) at ≡ begin.first_spec n env (r.of_param (r.in_params o x [] k)) (view_symbol y) at
+params_rest n env o x k s.RightParen at a = absurd (a refl)
+params_rest n env o x k _ at a = refl
+
+pub declarator_rest : (n e : ℕ) (env : Env) (h : Had) (k : r.InDeclarator) (x : u.Declarator) (y : Symbol) (at : Span)
+    → (y ≡ s.LeftBracket → ⊥) → (y ≡ s.LeftParen → ⊥)
+    → m.declarator_next n e env h k x (view_symbol y) at ≡ m.end_declarator n e env h k x (view_symbol y) at
+declarator_rest n e env h k x s.LeftBracket at a b = absurd (a refl)
+declarator_rest n e env h k x s.LeftParen at a b = absurd (b refl)
+declarator_rest n e env h k x _ at a b = refl

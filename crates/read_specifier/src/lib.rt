@@ -1,0 +1,9 @@
+//! What a token does among specifiers, in records and in enumerations.
+#![tactic(auto)]
+
+mod on_specifier;
+
+pub use on_specifier::{
+    add_enumerator, enumerator_begin, enumerator_end, enumerator_next, field_begin, specs_next,
+    tag_next, tagged_next,
+};

@@ -1,0 +1,733 @@
+//! Statements: what a token does where a statement is open.
+
+ghost use Rattle.std.specs.Prelude.{◌≡◌, suc, max, false, [], ◌∷◌, ◌++◌, if◌then◌else◌, None, IfOk, IfErr, map};
+ghost use Rattle.c_tree.specs.Marked as marked;
+ghost use Rattle.c_tree.specs.Wf.{Env};
+ghost use Rattle.c_reader.specs.Begin as begin;
+ghost use Rattle.c_reader.specs.MarkedBegin as begun;
+ghost use Rattle.c_reader.specs.MarkedInside as inside;
+ghost use Rattle.c_reader.specs.MarkedParts as parts;
+ghost use Rattle.c_reader.specs.MarkedStmts as reader;
+ghost use Rattle.c_reader.specs.Stmts as machine;
+ghost use Rattle.c_stack.specs.Gives.{Gives};
+ghost use Rattle.c_stack.specs.Seen.{view_head, view_symbol};
+ghost use Rattle.c_stack.specs.Shown.{shown, shown_block_item, shown_declarator, shown_external, shown_first, shown_maybe, shown_specs, shown_stmt};
+ghost use Rattle.c_stack.specs.Views.{view_condition, view_in_body, view_in_declaration, view_in_expr, view_in_stmt, view_open, view_part, view_stmt_mode, view_unended};
+ghost use Rattle.c_stack.specs.declared.step.StepEnd.TheVariants.{NoMemory};
+
+use c_stack::inside::{
+    Condition, ExprMode, InBody, InDeclaration, InExpr, InSpecs, InStmt, Mode, Next, Open, Part,
+    StmtMode, Unended,
+};
+use c_stack::make::{mark, no_expr};
+use c_stack::names::Names;
+use c_stack::statements::{
+    block, break_, continue_, defines, do_while, empty, first_expr, for_, if_, if_else, return_,
+    statement_item, while_, with_block_item, with_external,
+};
+use c_stack::step::{StepEnd, following};
+use c_stack::symbol::{Head, Symbol};
+use c_tree::{At, BlockItem, Declarator, Expr, External, ForFirst, Spec, Stmt};
+use read_begin::{begin_specs, begins_specs, ending, refuse, want};
+use std::alloc::{AllocError, Global};
+use tok_base::{Items, Span};
+
+/// The place of a statement's expression.
+fn in_stmt(alloc: Global, o: Open, part: Part, k: Box<InStmt>) -> Result<Box<InExpr>, AllocError>
+    ensures { IfOk result (λ x. view_in_expr x.value ≡ inside.in_stmt (view_open o) (view_part part) (view_in_stmt k.value)) }
+{
+    let place = Box::new(alloc, InExpr::Stmt(o, part, k))?;
+    Ok(place)
+}
+
+/// The first token of a statement's expression.
+fn want_part(
+    alloc: Global,
+    names: &Names,
+    id: u32,
+    o: Open,
+    part: Part,
+    k: Box<InStmt>,
+    y: Symbol,
+    span: Span,
+) -> Result<Next, StepEnd>
+    ensures { Gives names.now result (begun.want id names.now (inside.in_stmt (view_open o) (view_part part) (view_in_stmt k.value)) (view_symbol y.entry) span) }
+{
+    let place = in_stmt(alloc, o, part, k)?;
+    want(alloc, names, id, place, y, span)
+}
+
+// ---- where a statement is still to come
+
+/// The body of `do`.
+fn do_begin(alloc: Global, id: u32, o: Open, k: Box<InStmt>) -> Result<Next, StepEnd>
+    ensures { (env : Env) → Gives env result (inside.go_on id env (inside.stmt (inside.want_stmt (inside.in_do (view_open o) (view_in_stmt k.value))))) }
+{
+    let place = Box::new(alloc, InStmt::Do(o, k))?;
+    Ok(Next::at_stmt(id, StmtMode::WantStmt(place)))
+}
+
+/// A word that begins a statement.
+fn head_begin(
+    alloc: Global,
+    id: u32,
+    k: Box<InStmt>,
+    head: Head,
+    span: Span,
+) -> Result<Next, StepEnd>
+    ensures { (env : Env) → Gives env result (reader.head_begin id env (view_in_stmt k.value) (view_head head) span) }
+{
+    let o = Open::at(k.around().level, span.start)?;
+    match head {
+        Head::If => Ok(Next::at_stmt(id, StmtMode::WantParen(o, Condition::If, k))),
+        Head::Else => Err(StepEnd::Wrong),
+        Head::While => Ok(Next::at_stmt(id, StmtMode::WantParen(o, Condition::While, k))),
+        Head::Do => do_begin(alloc, id, o, k),
+        Head::For => Ok(Next::at_stmt(id, StmtMode::AfterFor(o, k))),
+        Head::Break => Ok(Next::at_stmt(id, StmtMode::WantSemi(o, Unended::Broken, k))),
+        Head::Continue => Ok(Next::at_stmt(id, StmtMode::WantSemi(o, Unended::Continued, k))),
+        Head::Return => Ok(Next::at_stmt(id, StmtMode::AfterReturn(o, k))),
+    }
+}
+
+/// The number of a definition whose body has this number and is open so, the next number, and the greatest
+/// depth of the external declarations with it.
+fn definition_ending(id: u32, deep: u32, o: Open, body: Open) -> Result<(u32, u32, u32), StepEnd>
+    ensures ok { IfOk result (λ r. r ≡ (suc id, suc (suc id), max deep (parts.whole (view_open o) (parts.whole (view_open body) 0)))) }
+    ensures err { IfErr result (λ e. e ≡ NoMemory) }
+{
+    let outer = following(id)?;
+    let next = following(outer)?;
+    let inner = body.whole(0)?;
+    let whole = o.whole(inner)?;
+    Ok((outer, next, deep.max(whole)))
+}
+
+/// The end of a body, which is its definition's.
+fn definition_done(
+    id: u32,
+    o: Open,
+    deep: u32,
+    node: Open,
+    done: Items<External>,
+    specs: Items<Spec>,
+    declarator: Declarator,
+    items: Items<BlockItem>,
+    span: Span,
+) -> Result<Next, StepEnd>
+    ensures { (env : Env) → Gives env result (reader.block_done id env (view_open o) (inside.of_definition deep (view_open node) (map shown_external done) (shown_specs specs) (shown_declarator declarator)) (parts.items_of (map shown_block_item items)) span) }
+{
+    let (outer, next, depth) = definition_ending(id, deep, node, o)?;
+    let at = mark(node.from, span.end, outer);
+    let body_at = mark(o.from, span.end, id);
+    let x = defines(at, specs, declarator, body_at, items);
+    let done = with_external(done, x)?;
+    Ok(Next {
+        id: next,
+        name: None,
+        mode: Mode::WantExternal(depth, done),
+    })
+}
+
+/// A statement that ends with this token.
+fn stmt_done(id: u32, deep: u32, k: Box<InStmt>, a: Stmt) -> Result<Next, StepEnd>
+    ensures { (env : Env) → Gives env result (inside.go_on (suc id) env (inside.stmt (inside.after_stmt deep (view_in_stmt k.value) (shown_stmt a)))) }
+{
+    let next = following(id)?;
+    Ok(Next::at_stmt(next, StmtMode::AfterStmt(deep, k, a)))
+}
+
+/// A block among statements.
+fn block_stmt_done(
+    id: u32,
+    o: Open,
+    k: Box<InStmt>,
+    items: Items<BlockItem>,
+    span: Span,
+) -> Result<Next, StepEnd>
+    ensures { (env : Env) → Gives env result (reader.block_done id env (view_open o) (inside.of_stmt (view_in_stmt k.value)) (parts.items_of (map shown_block_item items)) span) }
+{
+    let deep = o.whole(0)?;
+    let a = block(mark(o.from, span.end, id), items);
+    stmt_done(id, deep, k, a)
+}
+
+fn block_done(
+    id: u32,
+    o: Open,
+    body: InBody,
+    items: Items<BlockItem>,
+    span: Span,
+) -> Result<Next, StepEnd>
+    ensures { (env : Env) → Gives env result (reader.block_done id env (view_open o) (view_in_body body) (parts.items_of (map shown_block_item items)) span) }
+{
+    match body {
+        InBody::Definition(deep, node, done, specs, declarator) => {
+            definition_done(id, o, deep, node, done, specs, declarator, items, span)
+        }
+        InBody::Stmt(k) => block_stmt_done(id, o, k, items, span),
+        InBody::Never(never, _) => match never {},
+    }
+}
+
+/// The `}` of a block.
+fn close_block(id: u32, k: Box<InStmt>, span: Span) -> Result<Next, StepEnd>
+    ensures { (env : Env) → Gives env result (reader.close_block id env (view_in_stmt k.value) span) }
+{
+    match Box::into_inner(k) {
+        InStmt::Block(o, items, body) => block_done(id, o, Box::into_inner(body), items, span),
+        InStmt::Then(_, c, k) => refuse((c, k)),
+        InStmt::Else(_, c, a, k) => refuse((c, a, k)),
+        InStmt::While(_, c, k) => refuse((c, k)),
+        InStmt::Do(_, k) => refuse(k),
+        InStmt::For(_, first, c, step, k) => refuse((first, c, step, k)),
+    }
+}
+
+/// The first token of a declaration.
+fn begin_declaration(
+    alloc: Global,
+    id: u32,
+    place: InDeclaration,
+    y: Symbol,
+    span: Span,
+) -> Result<Next, StepEnd>
+    ensures { (env : Env) → Gives env result (begun.begin_specs id env (inside.of_declaration (view_in_declaration place)) (view_symbol y.entry) span) }
+{
+    let inner = Box::new(alloc, place)?;
+    let outer = Box::new(alloc, InSpecs::Declaration(inner))?;
+    begin_specs(alloc, id, outer, y, span)
+}
+
+/// A declaration stands only in a block.
+fn declaration_begin(
+    alloc: Global,
+    id: u32,
+    k: Box<InStmt>,
+    y: Symbol,
+    span: Span,
+) -> Result<Next, StepEnd>
+    ensures { (env : Env) → Gives env result (reader.declaration_begin id env (view_in_stmt k.value) (view_symbol y.entry) span) }
+{
+    match Box::into_inner(k) {
+        InStmt::Block(o, items, body) => {
+            begin_declaration(alloc, id, InDeclaration::Block(o, items, body), y, span)
+        }
+        InStmt::Then(_, c, k) => refuse((c, k)),
+        InStmt::Else(_, c, a, k) => refuse((c, a, k)),
+        InStmt::While(_, c, k) => refuse((c, k)),
+        InStmt::Do(_, k) => refuse(k),
+        InStmt::For(_, first, c, step, k) => refuse((first, c, step, k)),
+    }
+}
+
+/// `{` among statements.
+fn block_begin(alloc: Global, id: u32, k: Box<InStmt>, span: Span) -> Result<Next, StepEnd>
+    ensures { (env : Env) → Gives env result (inside.go_on id env (inside.stmt (inside.want_stmt (inside.in_block (parts.opens (inside.around_stmt (view_in_stmt k.value)).level span.start) [] (inside.of_stmt (view_in_stmt k.value)))))) }
+{
+    let o = Open::at(k.around().level, span.start)?;
+    let body = Box::new(alloc, InBody::Stmt(k))?;
+    let place = Box::new(alloc, InStmt::Block(o, Items::new(alloc), body))?;
+    Ok(Next::at_stmt(id, StmtMode::WantStmt(place)))
+}
+
+/// A semicolon alone.
+fn empty_stmt(id: u32, k: Box<InStmt>, span: Span) -> Result<Next, StepEnd>
+    ensures { (env : Env) → Gives env result (inside.go_on (suc id) env (inside.stmt (inside.after_stmt 1 (view_in_stmt k.value) (marked.ExprStmt (parts.mark span.start span.end id) marked.no_expr)))) }
+{
+    let a = empty(mark(span.start, span.end, id));
+    stmt_done(id, 1, k, a)
+}
+
+/// A declaration or an expression.
+fn other_begin(
+    alloc: Global,
+    names: &Names,
+    id: u32,
+    k: Box<InStmt>,
+    y: Symbol,
+    span: Span,
+) -> Result<Next, StepEnd>
+    ensures { Gives names.now result (if begin.begins_specs names.now false (view_symbol y.entry) then reader.declaration_begin id names.now (view_in_stmt k.value) (view_symbol y.entry) span else begun.want id names.now (inside.in_stmt (parts.opens (inside.around_stmt (view_in_stmt k.value)).level span.start) inside.plain (view_in_stmt k.value)) (view_symbol y.entry) span) }
+{
+    if begins_specs(names, false, y) {
+        declaration_begin(alloc, id, k, y, span)
+    } else {
+        let o = Open::at(k.around().level, span.start)?;
+        want_part(alloc, names, id, o, Part::Plain, k, y, span)
+    }
+}
+
+/// The first token of a statement, or of a block's item, or its end.
+fn stmt_begin(
+    alloc: Global,
+    names: &Names,
+    id: u32,
+    k: Box<InStmt>,
+    y: Symbol,
+    span: Span,
+) -> Result<Next, StepEnd>
+    ensures { Gives names.now result (reader.stmt_begin id names.now (view_in_stmt k.value) (view_symbol y.entry) span) }
+{
+    match y {
+        Symbol::Head(head) => head_begin(alloc, id, k, head, span),
+        Symbol::LeftBrace => block_begin(alloc, id, k, span),
+        Symbol::RightBrace => close_block(id, k, span),
+        Symbol::Semicolon => empty_stmt(id, k, span),
+        _ => other_begin(alloc, names, id, k, y, span),
+    }
+}
+
+// ---- behind a statement
+
+fn is_else(y: Symbol) -> bool
+    ensures { result ≡ machine.is_else (view_symbol y.entry) }
+{
+    match y {
+        Symbol::Head(head) => is_else_word(head),
+        _ => false,
+    }
+}
+
+fn is_else_word(head: Head) -> bool
+    ensures { result ≡ machine.is_else_word (view_head head) }
+{
+    match head {
+        Head::Else => true,
+        _ => false,
+    }
+}
+
+fn is_while(y: Symbol) -> bool
+    ensures { result ≡ machine.is_while (view_symbol y.entry) }
+{
+    match y {
+        Symbol::Head(head) => is_while_word(head),
+        _ => false,
+    }
+}
+
+fn is_while_word(head: Head) -> bool
+    ensures { result ≡ machine.is_while_word (view_head head) }
+{
+    match head {
+        Head::While => true,
+        _ => false,
+    }
+}
+
+/// The items with a statement more.
+fn with_stmt(items: Items<BlockItem>, a: Stmt) -> Result<Items<BlockItem>, StepEnd>
+    ensures ok { IfOk result (λ is. map shown_block_item is ≡ map shown_block_item items ++ parts.statement (shown_stmt a) ∷ []) }
+    ensures err { IfErr result (λ e. e ≡ NoMemory) }
+{
+    Ok(with_block_item(items, statement_item(a))?)
+}
+
+/// `else`
+fn else_begin(
+    alloc: Global,
+    id: u32,
+    o: Open,
+    c: Expr,
+    a: Stmt,
+    k: Box<InStmt>,
+) -> Result<Next, StepEnd>
+    ensures { (env : Env) → Gives env result (inside.go_on id env (inside.stmt (inside.want_stmt (inside.in_else (view_open o) (shown c) (shown_stmt a) (view_in_stmt k.value))))) }
+{
+    let place = Box::new(alloc, InStmt::Else(o, c, a, k))?;
+    Ok(Next::at_stmt(id, StmtMode::WantStmt(place)))
+}
+
+/// `while` behind the body of `do`.
+fn do_next(id: u32, o: Open, k: Box<InStmt>, a: Stmt, y: Symbol) -> Result<Next, StepEnd>
+    ensures { (env : Env) → Gives env result (if machine.is_while (view_symbol y.entry) then inside.go_on id env (inside.stmt (inside.want_paren (view_open o) (inside.of_do (shown_stmt a)) (view_in_stmt k.value))) else None) }
+{
+    if is_while(y) {
+        Ok(Next::at_stmt(id, StmtMode::WantParen(o, Condition::Do(a), k)))
+    } else {
+        refuse((k, a))
+    }
+}
+
+/// A statement that ended: the number of the next node, and its depth.
+#[derive(Drop)]
+struct Whole {
+    id: u32,
+    deep: u32,
+    stmt: Stmt,
+}
+
+/// `if` without `else`.
+fn end_if(
+    alloc: Global,
+    id: u32,
+    end: u32,
+    d: u32,
+    o: Open,
+    c: Expr,
+    a: Stmt,
+) -> Result<Whole, StepEnd>
+    ensures id { IfOk result (λ e. e.id ≡ suc id) }
+    ensures deep { IfOk result (λ e. e.deep ≡ parts.whole (view_open o) d) }
+    ensures stmt { IfOk result (λ e. shown_stmt e.stmt ≡ marked.If (parts.mark o.from end id) (shown c) (shown_stmt a)) }
+    ensures err { IfErr result (λ e. e ≡ NoMemory) }
+{
+    let stmt = if_(alloc, mark(o.from, end, id), c, a)?;
+    let (id, deep) = ending(id, o, d)?;
+    Ok(Whole { id, deep, stmt })
+}
+
+/// `if` with `else`.
+fn end_if_else(
+    alloc: Global,
+    id: u32,
+    end: u32,
+    d: u32,
+    o: Open,
+    c: Expr,
+    b: Stmt,
+    a: Stmt,
+) -> Result<Whole, StepEnd>
+    ensures id { IfOk result (λ e. e.id ≡ suc id) }
+    ensures deep { IfOk result (λ e. e.deep ≡ parts.whole (view_open o) d) }
+    ensures stmt { IfOk result (λ e. shown_stmt e.stmt ≡ marked.IfElse (parts.mark o.from end id) (shown c) (shown_stmt b) (shown_stmt a)) }
+    ensures err { IfErr result (λ e. e ≡ NoMemory) }
+{
+    let stmt = if_else(alloc, mark(o.from, end, id), c, b, a)?;
+    let (id, deep) = ending(id, o, d)?;
+    Ok(Whole { id, deep, stmt })
+}
+
+/// `while`
+fn end_while(
+    alloc: Global,
+    id: u32,
+    end: u32,
+    d: u32,
+    o: Open,
+    c: Expr,
+    a: Stmt,
+) -> Result<Whole, StepEnd>
+    ensures id { IfOk result (λ e. e.id ≡ suc id) }
+    ensures deep { IfOk result (λ e. e.deep ≡ parts.whole (view_open o) d) }
+    ensures stmt { IfOk result (λ e. shown_stmt e.stmt ≡ marked.While (parts.mark o.from end id) (shown c) (shown_stmt a)) }
+    ensures err { IfErr result (λ e. e ≡ NoMemory) }
+{
+    let stmt = while_(alloc, mark(o.from, end, id), c, a)?;
+    let (id, deep) = ending(id, o, d)?;
+    Ok(Whole { id, deep, stmt })
+}
+
+/// `for`
+fn end_for(
+    alloc: Global,
+    id: u32,
+    end: u32,
+    d: u32,
+    o: Open,
+    first: ForFirst,
+    c: Option<Expr>,
+    step: Option<Expr>,
+    a: Stmt,
+) -> Result<Whole, StepEnd>
+    ensures id { IfOk result (λ e. e.id ≡ suc id) }
+    ensures deep { IfOk result (λ e. e.deep ≡ parts.whole (view_open o) d) }
+    ensures stmt { IfOk result (λ e. shown_stmt e.stmt ≡ marked.For (parts.mark o.from end id) (shown_first first) (shown_maybe c) (shown_maybe step) (shown_stmt a)) }
+    ensures err { IfErr result (λ e. e ≡ NoMemory) }
+{
+    let stmt = for_(alloc, mark(o.from, end, id), first, c, step, a)?;
+    let (id, deep) = ending(id, o, d)?;
+    Ok(Whole { id, deep, stmt })
+}
+
+/// The token behind a statement in a block.
+fn block_next(
+    alloc: Global,
+    names: &Names,
+    id: u32,
+    o: Open,
+    items: Items<BlockItem>,
+    body: Box<InBody>,
+    a: Stmt,
+    y: Symbol,
+    span: Span,
+) -> Result<Next, StepEnd>
+    ensures { Gives names.now result (reader.stmt_begin id names.now (inside.in_block (view_open o) (map shown_block_item items ++ parts.statement (shown_stmt a) ∷ []) (view_in_body body.value)) (view_symbol y.entry) span) }
+{
+    let items = with_stmt(items, a)?;
+    let place = Box::new(alloc, InStmt::Block(o, items, body))?;
+    stmt_begin(alloc, names, id, place, y, span)
+}
+
+/// The token behind a statement of this depth: what ends there ends with the last token.
+fn stmt_next(
+    alloc: Global,
+    names: &Names,
+    id: u32,
+    end: u32,
+    deep: u32,
+    k: Box<InStmt>,
+    a: Stmt,
+    y: Symbol,
+    span: Span,
+) -> Result<Next, StepEnd>
+    ensures { Gives names.now result (reader.stmt_next id end names.now deep (view_in_stmt k.value) (shown_stmt a) (view_symbol y.entry) span) }
+{
+    match Box::into_inner(k) {
+        InStmt::Block(o, items, body) => {
+            block_next(alloc, names, id, o.with_part(deep), items, body, a, y, span)
+        }
+        InStmt::Then(o, c, k) => {
+            if is_else(y) {
+                else_begin(alloc, id, o.with_part(deep), c, a, k)
+            } else {
+                let whole = end_if(alloc, id, end, deep, o, c, a)?;
+                stmt_next(
+                    alloc, names, whole.id, end, whole.deep, k, whole.stmt, y, span,
+                )
+            }
+        }
+        InStmt::Else(o, c, b, k) => {
+            let whole = end_if_else(alloc, id, end, deep, o, c, b, a)?;
+            stmt_next(
+                alloc, names, whole.id, end, whole.deep, k, whole.stmt, y, span,
+            )
+        }
+        InStmt::While(o, c, k) => {
+            let whole = end_while(alloc, id, end, deep, o, c, a)?;
+            stmt_next(
+                alloc, names, whole.id, end, whole.deep, k, whole.stmt, y, span,
+            )
+        }
+        InStmt::Do(o, k) => do_next(id, o.with_part(deep), k, a, y),
+        InStmt::For(o, first, c, step, k) => {
+            let whole = end_for(alloc, id, end, deep, o, first, c, step, a)?;
+            stmt_next(
+                alloc, names, whole.id, end, whole.deep, k, whole.stmt, y, span,
+            )
+        }
+    }
+}
+
+// ---- the heads of statements
+
+fn paren_next(
+    alloc: Global,
+    id: u32,
+    o: Open,
+    c: Condition,
+    k: Box<InStmt>,
+    y: Symbol,
+) -> Result<Next, StepEnd>
+    ensures { (env : Env) → Gives env result (reader.paren_next id env (view_open o) (view_condition c) (view_in_stmt k.value) (view_symbol y.entry)) }
+{
+    match y {
+        Symbol::LeftParen => {
+            let place = in_stmt(alloc, o, Part::Condition(c), k)?;
+            Ok(Next::at_expr(id, ExprMode::WantExpr(place)))
+        }
+        _ => refuse((c, k)),
+    }
+}
+
+fn for_next(id: u32, o: Open, k: Box<InStmt>, y: Symbol) -> Result<Next, StepEnd>
+    ensures { (env : Env) → Gives env result (reader.for_next id env (view_open o) (view_in_stmt k.value) (view_symbol y.entry)) }
+{
+    match y {
+        Symbol::LeftParen => Ok(Next::at_stmt(id, StmtMode::ForOpened(o, k))),
+        _ => Err(StepEnd::Wrong),
+    }
+}
+
+/// The first part of `for`, a declaration or an expression.
+fn first_begin(
+    alloc: Global,
+    names: &Names,
+    id: u32,
+    o: Open,
+    k: Box<InStmt>,
+    y: Symbol,
+    span: Span,
+) -> Result<Next, StepEnd>
+    ensures { Gives names.now result (if begin.begins_specs names.now false (view_symbol y.entry) then begun.begin_specs id names.now (inside.of_declaration (inside.of_for (view_open o) (view_in_stmt k.value))) (view_symbol y.entry) span else begun.want id names.now (inside.in_stmt (view_open o) inside.for_first (view_in_stmt k.value)) (view_symbol y.entry) span) }
+{
+    if begins_specs(names, false, y) {
+        begin_declaration(alloc, id, InDeclaration::For(o, k), y, span)
+    } else {
+        want_part(alloc, names, id, o, Part::ForFirst, k, y, span)
+    }
+}
+
+fn for_begin(
+    alloc: Global,
+    names: &Names,
+    id: u32,
+    o: Open,
+    k: Box<InStmt>,
+    y: Symbol,
+    span: Span,
+) -> Result<Next, StepEnd>
+    ensures { Gives names.now result (reader.for_begin id names.now (view_open o) (view_in_stmt k.value) (view_symbol y.entry) span) }
+{
+    match y {
+        Symbol::Semicolon => {
+            let first = first_expr(no_expr());
+            Ok(Next::at_stmt(id, StmtMode::WantCondition(o, first, k)))
+        }
+        _ => first_begin(alloc, names, id, o, k, y, span),
+    }
+}
+
+fn condition_begin(
+    alloc: Global,
+    names: &Names,
+    id: u32,
+    o: Open,
+    first: ForFirst,
+    k: Box<InStmt>,
+    y: Symbol,
+    span: Span,
+) -> Result<Next, StepEnd>
+    ensures { Gives names.now result (reader.condition_begin id names.now (view_open o) (shown_first first) (view_in_stmt k.value) (view_symbol y.entry) span) }
+{
+    match y {
+        Symbol::Semicolon => Ok(Next::at_stmt(id, StmtMode::WantStep(o, first, no_expr(), k))),
+        _ => want_part(alloc, names, id, o, Part::ForCondition(first), k, y, span),
+    }
+}
+
+/// The body of `for` without a step.
+fn for_body(
+    alloc: Global,
+    id: u32,
+    o: Open,
+    first: ForFirst,
+    c: Option<Expr>,
+    k: Box<InStmt>,
+) -> Result<Next, StepEnd>
+    ensures { (env : Env) → Gives env result (inside.go_on id env (inside.stmt (inside.want_stmt (inside.in_for (view_open o) (shown_first first) (shown_maybe c) marked.no_expr (view_in_stmt k.value))))) }
+{
+    let place = Box::new(alloc, InStmt::For(o, first, c, no_expr(), k))?;
+    Ok(Next::at_stmt(id, StmtMode::WantStmt(place)))
+}
+
+fn step_begin(
+    alloc: Global,
+    names: &Names,
+    id: u32,
+    o: Open,
+    first: ForFirst,
+    c: Option<Expr>,
+    k: Box<InStmt>,
+    y: Symbol,
+    span: Span,
+) -> Result<Next, StepEnd>
+    ensures { Gives names.now result (reader.step_begin id names.now (view_open o) (shown_first first) (shown_maybe c) (view_in_stmt k.value) (view_symbol y.entry) span) }
+{
+    match y {
+        Symbol::RightParen => for_body(alloc, id, o, first, c, k),
+        _ => want_part(alloc, names, id, o, Part::ForStep(first, c), k, y, span),
+    }
+}
+
+// ---- statements that end with a semicolon
+
+fn ended(alloc: Global, at: At, a: Unended) -> Result<Stmt, StepEnd>
+    ensures ok { IfOk result (λ s. shown_stmt s ≡ reader.ended at (view_unended a)) }
+    ensures err { IfErr result (λ e. e ≡ NoMemory) }
+{
+    match a {
+        Unended::Broken => Ok(break_(at)),
+        Unended::Continued => Ok(continue_(at)),
+        Unended::DoneWhile(s, c) => Ok(do_while(alloc, at, s, c)?),
+    }
+}
+
+/// The semicolon of a statement.
+fn semi_done(
+    alloc: Global,
+    id: u32,
+    o: Open,
+    a: Unended,
+    k: Box<InStmt>,
+    span: Span,
+) -> Result<Next, StepEnd>
+    ensures { (env : Env) → Gives env result (inside.go_on (suc id) env (inside.stmt (inside.after_stmt (parts.whole (view_open o) 0) (view_in_stmt k.value) (reader.ended (parts.mark o.from span.end id) (view_unended a))))) }
+{
+    let deep = o.whole(0)?;
+    let a = ended(alloc, mark(o.from, span.end, id), a)?;
+    stmt_done(id, deep, k, a)
+}
+
+fn semi_next(
+    alloc: Global,
+    id: u32,
+    o: Open,
+    a: Unended,
+    k: Box<InStmt>,
+    y: Symbol,
+    span: Span,
+) -> Result<Next, StepEnd>
+    ensures { (env : Env) → Gives env result (reader.semi_next id env (view_open o) (view_unended a) (view_in_stmt k.value) (view_symbol y.entry) span) }
+{
+    match y {
+        Symbol::Semicolon => semi_done(alloc, id, o, a, k, span),
+        _ => refuse((a, k)),
+    }
+}
+
+/// `return;`
+fn return_done(id: u32, o: Open, k: Box<InStmt>, span: Span) -> Result<Next, StepEnd>
+    ensures { (env : Env) → Gives env result (inside.go_on (suc id) env (inside.stmt (inside.after_stmt (parts.whole (view_open o) 0) (view_in_stmt k.value) (marked.Return (parts.mark o.from span.end id) marked.no_expr)))) }
+{
+    let deep = o.whole(0)?;
+    let a = return_(mark(o.from, span.end, id), no_expr());
+    stmt_done(id, deep, k, a)
+}
+
+fn return_next(
+    alloc: Global,
+    names: &Names,
+    id: u32,
+    o: Open,
+    k: Box<InStmt>,
+    y: Symbol,
+    span: Span,
+) -> Result<Next, StepEnd>
+    ensures { Gives names.now result (reader.return_next id names.now (view_open o) (view_in_stmt k.value) (view_symbol y.entry) span) }
+{
+    match y {
+        Symbol::Semicolon => return_done(id, o, k, span),
+        _ => want_part(alloc, names, id, o, Part::Returned, k, y, span),
+    }
+}
+
+/// What a token does among statements.
+pub fn stmt_mode_next(
+    alloc: Global,
+    names: &Names,
+    id: u32,
+    end: u32,
+    mode: StmtMode,
+    y: Symbol,
+    span: Span,
+) -> Result<Next, StepEnd>
+    ensures { Gives names.now result (reader.stmt_mode_next id end names.now (view_stmt_mode mode) (view_symbol y.entry) span) }
+{
+    match mode {
+        StmtMode::WantStmt(k) => stmt_begin(alloc, names, id, k, y, span),
+        StmtMode::AfterStmt(deep, k, a) => { stmt_next(alloc, names, id, end, deep, k, a, y, span) }
+        StmtMode::WantParen(o, c, k) => paren_next(alloc, id, o, c, k, y),
+        StmtMode::AfterFor(o, k) => for_next(id, o, k, y),
+        StmtMode::ForOpened(o, k) => for_begin(alloc, names, id, o, k, y, span),
+        StmtMode::WantCondition(o, first, k) => {
+            condition_begin(alloc, names, id, o, first, k, y, span)
+        }
+        StmtMode::WantStep(o, first, c, k) => {
+            step_begin(alloc, names, id, o, first, c, k, y, span)
+        }
+        StmtMode::WantSemi(o, a, k) => semi_next(alloc, id, o, a, k, y, span),
+        StmtMode::AfterReturn(o, k) => return_next(alloc, names, id, o, k, y, span),
+    }
+}
