@@ -1,5 +1,5 @@
 -- A source, a sink and files in memory.
-use Rattle.std.specs.Prelude.{◌≡◌, ℕ, zero, suc, ◌<◌, ◌+◌, ◌-◌, ◌^◌, ◌++◌, ◌||◌, min, Bool, List, [], ◌∷◌, Option, Some, None, eqb, bytes_eq, find, option_map, Result, Ok, Err, length, take, drop, if◌then◌else◌}
+use Rattle.std.specs.Prelude.{◌≡◌, ℕ, zero, suc, ltb, ◌+◌, ◌-◌, ◌^◌, ◌++◌, ◌||◌, min, Bool, List, [], ◌∷◌, Option, Some, None, eqb, bytes_eq, find, option_map, Result, Ok, Err, length, take, drop, if◌then◌else◌}
 use Rattle.std.specs.List.{list_any}
 use Rattle.tok_base.specs.Files.{Tally}
 use Rattle.tok_base.specs.declared.files.ReadEnd.{ReadEnd}
@@ -85,7 +85,7 @@ found s name = if is_to_fail s.fails s.calls then None else bytes_of s.files nam
 -- what a read of the name answers, but for want of memory
 abbrev pub answer_of : Option (List ℕ) → ℕ → Result (List ℕ) ReadEnd
 answer_of None limit = Err Fault
-answer_of (Some bytes) limit = if limit < length bytes then Err TooLong else Ok bytes
+answer_of (Some bytes) limit = if ltb limit (length bytes) then Err TooLong else Ok bytes
 
 -- it is this answer, or there was no memory
 abbrev pub Answers : Result (List ℕ) ReadEnd → Result (List ℕ) ReadEnd → Type 0

@@ -2,7 +2,7 @@
 
 ghost use Rattle.std.specs.Prelude.{◌≡◌, ◌≢◌, ◌↔◌, ◌⊎◌, ◌+◌, ◌-◌, ◌<◌, ◌≤◌, ◌^◌, [], ◌++◌, Ok, length, take, min, true, IfOk, IsOk, IfSome, MatchResult, option_copied};
 ghost use Rattle.std.specs.Io.KnownBytes.{ReadConsumes, WriteAppends};
-ghost use Rattle.io.specs.Counts.{IsPrefixLen};
+ghost use Rattle.std.specs.Io.{ReadsAtMost};
 ghost use Rattle.tok_base.specs.Fault.{HasCause};
 ghost use Rattle.tok_base.specs.Files.{Finds, Marks};
 ghost use Rattle.tok_base.specs.Memory.{is_to_fail as to_fail, bytes_of, found, tally_of, taken, after_write, given, after_source_read, filled, answer_of, Answers, after_file_read};
@@ -83,7 +83,7 @@ impl Source for MemSource {
     ghost faults = { λ s. s.faults };
 
     fn read(&mut self, buf: &mut [u8]) -> Result<usize, Failed>
-        ensures bound { IfOk result (λ n. IsPrefixLen n buf.new) }
+        ensures bound { ReadsAtMost result buf.new }
         ensures empty { buf.old ≡ [] → result ≡ Ok 0 }
         ensures bytes { ReadConsumes (Some self.old.rest) (Some self.new.rest) result buf.new }
         ensures cause { HasCause self.old.faults self.new.faults result }

@@ -2,7 +2,7 @@
 
 ghost use Rattle.std.specs.Prelude.{◌≡◌, ℕ, ◌≤◌, List, [], Option, Ok, length, IfOk};
 ghost use Rattle.std.specs.Io.KnownBytes.{ReadConsumes};
-ghost use Rattle.io.specs.Counts.{IsPrefixLen};
+ghost use Rattle.std.specs.Io.{ReadsAtMost};
 ghost use Rattle.tok_base.specs.Fault.{HasCause};
 ghost use Rattle.tok_base.specs.Source.{ReadsWhole, Raises};
 
@@ -25,7 +25,7 @@ pub trait Source {
     /// Moves a front of the rest into the front of the buffer, and says how long it is. None is moved into a
     /// buffer that is not empty only where none is left. A read that fails moves nothing.
     fn read(&mut self, buf: &mut [u8]) -> Result<usize, Failed>
-        ensures bound { IfOk result (λ n. IsPrefixLen n buf.new) }
+        ensures bound { ReadsAtMost result buf.new }
         ensures empty { buf.old ≡ [] → result ≡ Ok 0 }
         ensures bytes { ReadConsumes (rest self.old) (rest self.new) result buf.new }
         ensures cause { HasCause (faults self.old) (faults self.new) result };
