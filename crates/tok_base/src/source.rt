@@ -44,7 +44,11 @@ pub fn read_whole<S: Source>(alloc: Global, source: &mut S, limit: u64) -> Resul
         match source.read(&mut piece) {
             Ok(0) => return Ok(Items::from_vec(bytes)),
             Ok(count) if (bytes.len() + count) as u64 > limit => return Err(ReadEnd::TooLong),
-            Ok(count) => bytes.extend_from_slice(&piece[..count])?,
+            Ok(count) => {
+                if bytes.extend_from_slice(&piece[..count]).is_err() {
+                    return Err(ReadEnd::NoMemory);
+                }
+            }
             Err(Failed) => return Err(ReadEnd::Fault),
         }
     }

@@ -5,11 +5,10 @@ use super::{
     RealFiles, RealSink, RealSource, Reason, Reserved, Sink, Source, Span, Status, TraceRule,
     UnitFault, Which, Words, read_whole, write_whole,
 };
-use std::fs;
 use std::fs::File;
-use std::io;
 use std::io::Write;
 use std::test::Fail;
+use std::{fs, io};
 
 fn listed(alloc: std::alloc::Global, numbers: &[u64]) -> Result<Items<u64>, Fail> {
     Ok(Items::from_slice(alloc, numbers)?)
