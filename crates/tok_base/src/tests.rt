@@ -1,26 +1,70 @@
 //! Tables of calls on objects in memory, and each adapter over the real thing.
 
 use super::{
-    Bytes, Failed, Files, FixedWords, Gate, Items, MemFiles, MemSink, MemSource, NoGate, ReadEnd,
-    RealFiles, RealSink, RealSource, Reason, Reserved, Sink, Source, Span, Status, TraceRule,
-    UnitFault, Which, Words, read_whole, write_whole,
+    Bytes, Failed, Files, FixedWords, Gate, Items, MemFiles, MemSink, MemSource, NoGate, NoMemory,
+    ReadEnd, RealFiles, RealSink, RealSource, Reason, Reserved, Sink, Source, Span, Status,
+    TraceRule, UnitFault, Which, Words, read_whole, write_whole,
 };
+use std::alloc::Global;
 use std::fs::File;
+use std::io;
 use std::io::Write;
+use std::process::Abort;
 use std::test::Fail;
-use std::{fs, io};
 
-fn listed(alloc: std::alloc::Global, numbers: &[u64]) -> Result<Items<u64>, Fail> {
-    Ok(Items::from_slice(alloc, numbers)?)
+fn sink(alloc: Global, room: u64, fail: u64) -> Result<MemSink, NoMemory> {
+    let fails = Items::from_slice(alloc, &[fail])?;
+    MemSink::new(alloc, room, fails)
 }
 
-fn text(alloc: std::alloc::Global, text: &str) -> Result<Bytes, Fail> {
-    Ok(Items::from_slice(alloc, text.as_bytes())?)
+fn slow_sink(alloc: Global, room: u64, fail: u64) -> Result<MemSink, NoMemory> {
+    let fails = Items::from_slice(alloc, &[fail])?;
+    MemSink::slow(alloc, room, fails, 1)
 }
 
-/// The calls on a sink: its room, the call that is to fail, the text, what is then written, and whether it is
-/// the whole text. First a sink that takes all that it has room for, then one that takes a byte at a time.
-const WHOLE: [(u64, u64, &str, &str, bool); 5] = [
+fn assert_written(
+    rt: &impl Abort,
+    sink: Result<MemSink, NoMemory>,
+    piece: &str,
+    written: &str,
+    whole: bool,
+) {
+    match sink {
+        Ok(mut sink) => {
+            assert_eq!(rt; write_whole(&mut sink, piece.as_bytes()).is_ok(), whole);
+            assert_eq!(rt; sink.write(b""), Ok(0));
+            assert_eq!(rt; sink.bytes(), written.as_bytes());
+        }
+        Err(NoMemory) => assert!(rt; false),
+    }
+}
+
+fn read_at_once(alloc: Global, bytes: &str, fail: u64, limit: u64) -> Result<Bytes, ReadEnd> {
+    let bytes = Items::from_slice(alloc, bytes.as_bytes())?;
+    let fails = Items::from_slice(alloc, &[fail])?;
+    let mut source = MemSource::new(bytes, fails);
+    read_whole(alloc, &mut source, limit)
+}
+
+fn read_slowly(alloc: Global, bytes: &str, fail: u64, limit: u64) -> Result<Bytes, ReadEnd> {
+    let bytes = Items::from_slice(alloc, bytes.as_bytes())?;
+    let fails = Items::from_slice(alloc, &[fail])?;
+    let mut source = MemSource::slow(bytes, fails, 1);
+    read_whole(alloc, &mut source, limit)
+}
+
+fn assert_read(rt: &impl Abort, read: Result<Bytes, ReadEnd>, bytes: &[u8], end: Option<ReadEnd>) {
+    match read {
+        Ok(read) => {
+            assert_eq!(rt; end, None);
+            assert_eq!(rt; read.as_slice(), bytes);
+        }
+        Err(why) => assert_eq!(rt; Some(why), end),
+    }
+}
+
+/// The room, the call that is to fail, the text, what is then written, and whether it is the whole text.
+const SINKS: [(u64, u64, &str, &str, bool); 5] = [
     (8, 9, "abcdefgh", "abcdefgh", true),
     (4, 9, "abcdef", "abcd", false),
     (8, 0, "a", "", false),
@@ -28,16 +72,15 @@ const WHOLE: [(u64, u64, &str, &str, bool); 5] = [
     (0, 9, "", "", true),
 ];
 
-const BY_ONE: [(u64, u64, &str, &str, bool); 4] = [
+const SLOW_SINKS: [(u64, u64, &str, &str, bool); 4] = [
     (8, 9, "abcd", "abcd", true),
     (8, 2, "abcd", "ab", false),
     (3, 9, "abcd", "abc", false),
     (8, 4, "abcd", "abcd", true),
 ];
 
-/// Reads of all that is left: the bytes, the call that is to fail, the limit, and the error. First a source
-/// that gives all that fits, then one that gives a byte at a time.
-const AT_ONCE: [(&str, u64, u64, Option<ReadEnd>); 6] = [
+/// The bytes, the call that is to fail, the limit, and the error.
+const SOURCES: [(&str, u64, u64, Option<ReadEnd>); 6] = [
     ("abcdef", 9, 6, None),
     ("abcdef", 9, 5, Some(ReadEnd::TooLong)),
     ("abcdef", 0, 6, Some(ReadEnd::Fault)),
@@ -46,7 +89,7 @@ const AT_ONCE: [(&str, u64, u64, Option<ReadEnd>); 6] = [
     ("", 9, 0, None),
 ];
 
-const SLOWLY: [(&str, u64, u64, Option<ReadEnd>); 6] = [
+const SLOW_SOURCES: [(&str, u64, u64, Option<ReadEnd>); 6] = [
     ("abcdef", 9, 6, None),
     ("abcdef", 7, 6, None),
     ("abcdef", 6, 6, Some(ReadEnd::Fault)),
@@ -56,40 +99,43 @@ const SLOWLY: [(&str, u64, u64, Option<ReadEnd>); 6] = [
 ];
 
 #[test]
-fn sinks_and_sources_in_memory_keep_to_their_tables(rt: HostRuntime) -> Result<(), Fail> {
+fn sinks_and_sources_in_memory_keep_to_their_tables(rt: HostRuntime) {
     let alloc = rt.alloc();
-    for (room, fail, piece, written, whole) in WHOLE {
-        let mut sink = MemSink::new(alloc, room, listed(alloc, &[fail])?).map_err(|_| "no memory")?;
-        assert_eq!(rt; write_whole(&mut sink, piece.as_bytes()).is_ok(), whole);
-        assert_eq!(rt; sink.write(b""), Ok(0));
-        assert_eq!(rt; sink.bytes(), written.as_bytes());
+    for (room, fail, piece, written, whole) in &SINKS {
+        assert_written(&rt, sink(alloc, *room, *fail), piece, written, *whole);
     }
-    for (room, fail, piece, written, whole) in BY_ONE {
-        let mut sink = MemSink::slow(alloc, room, listed(alloc, &[fail])?, 1).map_err(
-            |_| "no memory",
-        )?;
-        assert_eq!(rt; write_whole(&mut sink, piece.as_bytes()).is_ok(), whole);
-        assert_eq!(rt; sink.bytes(), written.as_bytes());
+    for (room, fail, piece, written, whole) in &SLOW_SINKS {
+        assert_written(&rt, slow_sink(alloc, *room, *fail), piece, written, *whole);
     }
-    for (bytes, fail, limit, end) in AT_ONCE {
-        let mut source = MemSource::new(text(alloc, bytes)?, listed(alloc, &[fail])?);
-        assert_eq!(rt; source.read(&mut []), Ok(0));
-        match read_whole(alloc, &mut source, limit) {
-            Ok(read) => assert!(rt; end == None && read.as_slice() == bytes.as_bytes()),
-            Err(why) => assert_eq!(rt; Some(why), end),
-        }
+    for (bytes, fail, limit, end) in &SOURCES {
+        assert_read(
+            &rt,
+            read_at_once(alloc, bytes, *fail, *limit),
+            bytes.as_bytes(),
+            *end,
+        );
     }
-    for (bytes, fail, limit, end) in SLOWLY {
-        let mut source = MemSource::slow(text(alloc, bytes)?, listed(alloc, &[fail])?, 1);
-        match read_whole(alloc, &mut source, limit) {
-            Ok(read) => assert!(rt; end == None && read.as_slice() == bytes.as_bytes()),
-            Err(why) => assert_eq!(rt; Some(why), end),
-        }
+    for (bytes, fail, limit, end) in &SLOW_SOURCES {
+        assert_read(
+            &rt,
+            read_slowly(alloc, bytes, *fail, *limit),
+            bytes.as_bytes(),
+            *end,
+        );
     }
-    Ok(())
 }
 
-/// Reads of files in memory, of which the fifth is to fail: the name, the limit, and the bytes or the error.
+fn two_files(alloc: Global) -> Result<MemFiles, NoMemory> {
+    let mut files = Items::new(alloc);
+    let name = Items::from_slice(alloc, b"a.c")?;
+    files.push((name, Items::from_slice(alloc, b"int x;")?))?;
+    let name = Items::from_slice(alloc, b"b.c")?;
+    files.push((name, Items::new(alloc)))?;
+    let fails = Items::from_slice(alloc, &[4])?;
+    Ok(MemFiles::new(files, fails))
+}
+
+/// Reads of files, of which the fifth is to fail: the name, the limit, and the bytes or the error.
 const FILES: [(&str, u64, &str, Option<ReadEnd>); 6] = [
     ("a.c", 6, "int x;", None),
     ("b.c", 0, "", None),
@@ -99,14 +145,29 @@ const FILES: [(&str, u64, &str, Option<ReadEnd>); 6] = [
     ("a.c", 6, "int x;", None),
 ];
 
+#[test]
+fn files_in_memory_keep_to_their_table(rt: HostRuntime) {
+    let alloc = rt.alloc();
+    match two_files(alloc) {
+        Ok(mut files) => {
+            for (name, limit, bytes, end) in &FILES {
+                let read = files.read(alloc, name.as_bytes(), *limit);
+                assert_read(&rt, read, bytes.as_bytes(), *end);
+            }
+        }
+        Err(NoMemory) => assert!(rt; false),
+    }
+}
+
+const PLACE: Span = Span { start: 1, end: 2 };
+
 /// Each status and its number.
-const CODES: [(Status, u8); 27] = [
+const CODES: [(Status, u8); 24] = [
     (Status::Done, 0),
     (Status::Usage, 2),
     (Status::FileFault, 3),
     (Status::ReadFault, 4),
     (Status::WriteFault, 5),
-    (Status::TooLong(Which::Unit), 6),
     (Status::TooLong(Which::Input), 6),
     (Status::Lex(3), 7),
     (Status::Syntax(3), 8),
@@ -124,59 +185,48 @@ const CODES: [(Status, u8); 27] = [
     (Status::NoMain, 22),
     (Status::NoBlock, 23),
     (Status::InUnit(1, UnitFault::TooLong), 6),
-    (Status::InUnit(1, UnitFault::Syntax(3)), 8),
     (Status::InUnit(1, UnitFault::Check(3, PLACE)), 9),
     (Status::InUnit(1, UnitFault::TooDeep), 15),
-    (Status::InUnit(1, UnitFault::Stateful(PLACE)), 17),
 ];
 
-const PLACE: Span = Span { start: 1, end: 2 };
+#[test]
+fn each_status_has_its_number(rt: HostRuntime) {
+    for (status, code) in &CODES {
+        assert_eq!(rt; status.code(), *code);
+    }
+}
 
 #[test]
-fn the_rest_keeps_to_its_tables(rt: HostRuntime) -> Result<(), Fail> {
+fn lists_words_and_gates_do_what_they_say(rt: HostRuntime) -> Result<(), Fail> {
     let alloc = rt.alloc();
-    let mut named = Items::new(alloc);
-    named.push((text(alloc, "a.c")?, text(alloc, "int x;")?))?;
-    named.push((text(alloc, "b.c")?, Items::new(alloc)))?;
-    let mut files = MemFiles::new(named, listed(alloc, &[4])?);
-    for (name, limit, bytes, end) in FILES {
-        match files.read(alloc, name.as_bytes(), limit) {
-            Ok(read) => assert!(rt; end == None && read.as_slice() == bytes.as_bytes()),
-            Err(why) => assert_eq!(rt; Some(why), end),
-        }
-    }
-    for (status, code) in CODES {
-        assert_eq!(rt; status.code(), code);
-    }
-    let words = FixedWords::new(listed(alloc, &[5, 17])?);
-    for (k, word) in [(0, 5), (1, 17), (2, 5), (5, 17)] {
-        assert_eq!(rt; words.word(9, k), word);
-    }
-    assert_eq!(rt; FixedWords::new(Items::new(alloc)).word(0, 3), 0);
-    NoGate.before(0, 0);
-    NoGate.inside(0, 0);
     let mut list = Reserved::with_room(alloc, 2).map_err(|_| "no memory")?;
     list.push(7u32);
     list.push(8);
     list.set(0, 9);
     assert_eq!(rt; list.as_slice(), [9, 8].as_slice());
     assert_eq!(rt; list.get(1), Some(&8));
-    list.truncate(1);
-    assert_eq!(rt; list.len(), 1);
     list.clear();
     list.reserve(3).map_err(|_| "no memory")?;
     assert!(rt; list.room() >= 3);
     list.push(5);
     assert_eq!(rt; list.into_items().as_slice(), [5].as_slice());
+    let words = FixedWords::new(Items::from_slice(alloc, &[5, 17])?);
+    for (k, word) in &[(0, 5), (1, 17), (2, 5), (5, 17)] {
+        assert_eq!(rt; words.word(9, *k), *word);
+    }
+    assert_eq!(rt; FixedWords::new(Items::new(alloc)).word(0, 3), 0);
+    NoGate.before(0, 0);
+    NoGate.inside(0, 0);
     Ok(())
 }
 
 /// A file that takes one byte of each piece.
-struct ByOne<'a, H: fs::Files> {
-    file: File<'a, H>,
+#[derive(Drop)]
+struct ByOne {
+    file: File,
 }
 
-impl<'a, H: fs::Files> Write for ByOne<'a, H> {
+impl Write for ByOne {
     fn write(&mut self, piece: &[u8]) -> io::Result<usize> {
         let count = piece.len().min(1);
         self.file.write(&piece[..count])
@@ -188,37 +238,48 @@ impl<'a, H: fs::Files> Write for ByOne<'a, H> {
 }
 
 #[test]
-fn real_files_sources_and_sinks_do_the_same(rt: HostRuntime) -> Result<(), Fail> {
-    let alloc = rt.alloc();
-    let mut sink = RealSink::new(ByOne {
-        file: File::create(&rt, "a.txt")?,
-    });
+fn a_short_write_is_not_the_whole(rt: HostRuntime) -> Result<(), Fail> {
+    let file = File::create(&rt, "a.txt")?;
+    let mut sink = RealSink::new(ByOne { file });
     assert_eq!(rt; sink.write(b"some "), Ok(1));
     assert_eq!(rt; sink.write(b""), Ok(0));
     assert!(rt; write_whole(&mut sink, b"ome text").is_ok());
     let mut files = RealFiles::new(&rt);
-    for (name, limit, end) in [
-        (b"a.txt".as_slice(), 9, None),
-        (b"a.txt".as_slice(), 8, Some(ReadEnd::TooLong)),
-        (b"a.txt".as_slice(), 0, Some(ReadEnd::TooLong)),
-        (b"missing.txt".as_slice(), 8, Some(ReadEnd::Fault)),
-        (b"\xff".as_slice(), 8, Some(ReadEnd::Fault)),
-    ] {
-        match files.read(alloc, name, limit) {
-            Ok(read) => assert!(rt; end == None && read.as_slice() == b"some text".as_slice()),
-            Err(why) => assert_eq!(rt; Some(why), end),
-        }
+    let read = files.read(rt.alloc(), b"a.txt", 9);
+    assert_read(&rt, read, b"some text", None);
+    Ok(())
+}
+
+/// Reads of files of the machine: the name, the limit, and the error.
+const REAL_FILES: [(&[u8], u64, Option<ReadEnd>); 5] = [
+    (b"a.txt", 9, None),
+    (b"a.txt", 8, Some(ReadEnd::TooLong)),
+    (b"a.txt", 0, Some(ReadEnd::TooLong)),
+    (b"missing.txt", 8, Some(ReadEnd::Fault)),
+    (b"\xff", 8, Some(ReadEnd::Fault)),
+];
+
+#[test]
+fn real_files_and_sources_do_the_same(rt: HostRuntime) -> Result<(), Fail> {
+    let alloc = rt.alloc();
+    let mut sink = RealSink::new(File::create(&rt, "a.txt")?);
+    assert!(rt; write_whole(&mut sink, b"some text").is_ok());
+    let mut files = RealFiles::new(&rt);
+    for (name, limit, end) in &REAL_FILES {
+        assert_read(&rt, files.read(alloc, name, *limit), b"some text", *end);
     }
     let mut source = RealSource::new(File::open(&rt, "a.txt")?);
     let mut first = [0; 1];
     assert_eq!(rt; source.read(&mut []), Ok(0));
     assert_eq!(rt; source.read(&mut first), Ok(1));
-    match read_whole(alloc, &mut source, 8) {
-        Ok(read) => assert_eq!(rt; read.as_slice(), b"ome text".as_slice()),
-        Err(_) => assert!(rt; false),
-    }
+    assert_read(&rt, read_whole(alloc, &mut source, 8), b"ome text", None);
     let mut long = RealSource::new(File::open(&rt, "a.txt")?);
-    assert!(rt; matches!(read_whole(alloc, &mut long, 8), Err(ReadEnd::TooLong)));
+    assert_read(
+        &rt,
+        read_whole(alloc, &mut long, 8),
+        b"",
+        Some(ReadEnd::TooLong),
+    );
     let mut unreadable = RealSource::new(File::create(&rt, "b.txt")?);
     assert_eq!(rt; unreadable.read(&mut first), Err(Failed));
     Ok(())
