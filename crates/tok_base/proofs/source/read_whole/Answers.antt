@@ -1,4 +1,4 @@
-use Rattle.std.proofs.Common.{ℕ, List, ◌++◌, take, length, ◌<◌, arith}
+use Rattle.std.proofs.Common.{◌++◌, take, length, ◌<◌, arith}
 use Rattle.std.proofs.lemmas.List.{length-append}
 use Rattle.std.specs.Io.KnownBytes.{Consumes}
 use Rattle.tok_base.proofs.Reading.{joined, longer}
