@@ -8,7 +8,7 @@ use Rattle.std.specs.Io.KnownBytes.{Appends}
 use Rattle.tok_base.specs.Fault.{Rose}
 use Rattle.tok_base.specs.Files.{Contents, Tally}
 use Rattle.tok_base.specs.declared.status.Status.{Status}
-use Rattle.tok_base.specs.declared.status.Status.TheVariants.{Done, Usage, FileFault, WriteFault, TooLong, Lex, Syntax, NoMemory, TooDeep}
+use Rattle.tok_base.specs.declared.status.Status.TheVariants.{Done, Usage, FileFault, WriteFault, TooLong, Lex, Syntax, NoMemory, TooDeep, ReadFault, Check, Trap, Spent, StackFull, OutputFull, ReservedName, Stateful, BadTrace, InUnit, Clash, NoMain, NoBlock}
 use Rattle.tok_base.specs.declared.status.Which.{Which}
 use Rattle.tok_base.specs.declared.status.Which.TheVariants as which
 use Rattle.c_lexer.specs.Cut.{IsBad}
@@ -56,6 +56,19 @@ module _ (words : List (List ℕ)) (files : Option Contents) (tally now : Tally)
   Cause WriteFault = ⊥
   Cause NoMemory = Prim.Unit {0}
   Cause Done = Prim.Unit {0}
+  Cause ReadFault = ⊥
+  Cause (Check rule span) = ⊥
+  Cause (Trap reason span) = ⊥
+  Cause Spent = ⊥
+  Cause StackFull = ⊥
+  Cause OutputFull = ⊥
+  Cause (ReservedName span) = ⊥
+  Cause (Stateful span) = ⊥
+  Cause (BadTrace line rule) = ⊥
+  Cause (InUnit unit fault) = ⊥
+  Cause (Clash unit span) = ⊥
+  Cause NoMain = ⊥
+  Cause NoBlock = ⊥
 
   text_caused : (o : Options) (text : List ℕ) (k : Course) → options_of words ≡ Some o → HasText files o.file text
       → TextComes text o.max k → Cause (status_of k)

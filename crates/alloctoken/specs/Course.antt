@@ -5,7 +5,7 @@ use Rattle.tok_base.specs.Fault.{Rose}
 use Rattle.tok_base.specs.Files.{Contents, Tally}
 use Rattle.tok_base.specs.Sink.{AppendsFront}
 use Rattle.tok_base.specs.declared.status.Status.{Status}
-use Rattle.tok_base.specs.declared.status.Status.TheVariants.{Done, Usage, FileFault, WriteFault, TooLong, Lex, Syntax, NoMemory, TooDeep}
+use Rattle.tok_base.specs.declared.status.Status.TheVariants.{Done, Usage, FileFault, WriteFault, TooLong, Lex, Syntax, NoMemory, TooDeep, ReadFault, Check, Trap, Spent, StackFull, OutputFull, ReservedName, Stateful, BadTrace, InUnit, Clash, NoMain, NoBlock}
 use Rattle.tok_base.specs.declared.status.Which.TheVariants as which
 use Rattle.tok_base.specs.declared.token.Lexeme.{Lexeme}
 use Rattle.c_lexer.specs.Cut.{IsBad}
@@ -78,7 +78,7 @@ pub data Comes (words : List (List ℕ)) (files : Option Contents) (tally now : 
 abbrev pub usage_line : List ℕ
 usage_line = codes "usage: alloctoken rewrite|tokens|exec|run|sample [options] FILE" ++ 10 ∷ []
 
--- the line of a refusal
+-- the line of a refusal; the last ones are no refusals of this program, and have none
 abbrev pub line_of : Status → List ℕ
 line_of Usage = usage_line
 line_of FileFault = codes "file fault" ++ 10 ∷ []
@@ -90,6 +90,19 @@ line_of TooDeep = codes "too deep" ++ 10 ∷ []
 line_of NoMemory = codes "no memory" ++ 10 ∷ []
 line_of WriteFault = []
 line_of Done = []
+line_of ReadFault = []
+line_of (Check rule span) = []
+line_of (Trap reason span) = []
+line_of Spent = []
+line_of StackFull = []
+line_of OutputFull = []
+line_of (ReservedName span) = []
+line_of (Stateful span) = []
+line_of (BadTrace line rule) = []
+line_of (InUnit unit fault) = []
+line_of (Clash unit span) = []
+line_of NoMain = []
+line_of NoBlock = []
 
 -- a sink: the bytes that it tells, and its count of faults
 pub record Written : Type 0 where

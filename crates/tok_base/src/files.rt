@@ -41,5 +41,6 @@ pub trait Files {
         ensures limit { IfOk result (λ bytes. length bytes ≤ limit) }
         ensures bytes { IfSome (contents self.old) (λ all. Finds all name.now limit result) }
         ensures same { contents self.new ≡ contents self.old }
+        ensures later { (tally self.old).faults ≤ (tally self.new).faults }
         ensures marks { Marks (tally self.old) (tally self.new) name.now result };
 }

@@ -50,10 +50,12 @@ impl<T> Reserved<T> {
         Ok(Reserved { list })
     }
 
-    /// Makes the room at least `more`.
+    /// Makes the room at least `more`. It never shrinks, and after an error it is as it was, below `more`.
     pub fn reserve(&mut self, more: usize) -> Result<(), NoMemory>
         ensures items { self.new.items ≡ self.old.items }
         ensures room { OnOk result (more ≤ self.new.room) }
+        ensures grows { self.old.room ≤ self.new.room }
+        ensures kept { OnErr result ((self.new.room ≡ self.old.room) × (self.old.room < more)) }
     {
         self.list.reserve(more)?;
         Ok(())
@@ -127,6 +129,13 @@ impl<T: Drop> Reserved<T> {
     {
         self.list.clear();
     }
+}
+
+/// Lets a value go and answers this error.
+pub fn give_up<T: Drop, V, E>(_: T, end: E) -> Result<V, E>
+    ensures { result ≡ Err end }
+{
+    Err(end)
 }
 
 /// What follows the first `at` bytes.

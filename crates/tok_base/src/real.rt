@@ -1,15 +1,50 @@
-//! Files and sinks of the machine. They tell no bytes: what a file, a terminal or a pipe holds is not proved.
+//! Sources, sinks and files of the machine. They tell no bytes: what a file, a terminal or a pipe holds is not proved.
 
 ghost use Rattle.std.specs.Prelude.{◌≡◌, ◌≤◌, length, IfOk, None};
 
 use crate::files::{Files, ReadEnd};
 use crate::list::{Bytes, Failed};
 use crate::sink::Sink;
+use crate::source::Source;
 use sqlite_items::Items;
 use std::alloc::Global;
 use std::fs::File;
 use std::io::{ErrorKind, Read, Write};
 use std::{fs, io, str};
+
+/// A source over any reader. A read that was broken off by a signal counts as a failure, like any other that
+/// fails.
+#[derive(Drop)]
+pub struct RealSource<R: Read> {
+    inner: R,
+    faults: u64,
+}
+
+impl<R: Read> RealSource<R> {
+    /// A source over this reader.
+    pub fn new(inner: R) -> RealSource<R> {
+        RealSource { inner, faults: 0 }
+    }
+}
+
+impl<R: Read> Source for RealSource<R> {
+    ghost rest = { λ _. None };
+
+    ghost faults = { λ s. s.faults };
+
+    fn read(&mut self, buf: &mut [u8]) -> Result<usize, Failed> {
+        if buf.is_empty() {
+            return Ok(0);
+        }
+        match self.inner.read(buf) {
+            Ok(count) => Ok(count),
+            Err(_) => {
+                self.faults = self.faults.saturating_add(1);
+                Err(Failed)
+            }
+        }
+    }
+}
 
 /// A sink over any writer. Each piece is flushed; a write of no byte counts as a failure.
 #[derive(Drop)]

@@ -1,108 +1,286 @@
-//! Each call once over objects in memory, and each adapter once over the real thing.
+//! Tables of calls on objects in memory, and each adapter over the real thing.
 
 use super::{
-    Bytes, Failed, Files, Items, MemFiles, MemSink, ReadEnd, RealFiles, RealSink, Reserved, Sink,
-    Status, Which, write_whole,
+    Bytes, Failed, Files, FixedWords, Gate, Items, MemFiles, MemSink, MemSource, NoGate, NoMemory,
+    ReadEnd, RealFiles, RealSink, RealSource, Reason, Reserved, Sink, Source, Span, Status,
+    TraceRule, UnitFault, Which, Words, read_whole, write_whole,
 };
-use std::fs;
+use std::alloc::Global;
+use std::fs::File;
+use std::io;
+use std::io::Write;
+use std::process::Abort;
 use std::test::Fail;
 
-fn listed(alloc: std::alloc::Global, numbers: &[u64]) -> Result<Items<u64>, Fail> {
-    Ok(Items::from_slice(alloc, numbers)?)
+fn sink(alloc: Global, room: u64, fail: u64) -> Result<MemSink, NoMemory> {
+    let fails = Items::from_slice(alloc, &[fail])?;
+    MemSink::new(alloc, room, fails)
+}
+
+fn slow_sink(alloc: Global, room: u64, fail: u64) -> Result<MemSink, NoMemory> {
+    let fails = Items::from_slice(alloc, &[fail])?;
+    MemSink::slow(alloc, room, fails, 1)
+}
+
+fn assert_written(
+    rt: &impl Abort,
+    sink: Result<MemSink, NoMemory>,
+    piece: &str,
+    written: &str,
+    whole: bool,
+) {
+    match sink {
+        Ok(mut sink) => {
+            assert_eq!(rt; write_whole(&mut sink, piece.as_bytes()).is_ok(), whole);
+            assert_eq!(rt; sink.write(b""), Ok(0));
+            assert_eq!(rt; sink.bytes(), written.as_bytes());
+        }
+        Err(NoMemory) => assert!(rt; false),
+    }
+}
+
+fn read_at_once(alloc: Global, bytes: &str, fail: u64, limit: u64) -> Result<Bytes, ReadEnd> {
+    let bytes = Items::from_slice(alloc, bytes.as_bytes())?;
+    let fails = Items::from_slice(alloc, &[fail])?;
+    let mut source = MemSource::new(bytes, fails);
+    read_whole(alloc, &mut source, limit)
+}
+
+fn read_slowly(alloc: Global, bytes: &str, fail: u64, limit: u64) -> Result<Bytes, ReadEnd> {
+    let bytes = Items::from_slice(alloc, bytes.as_bytes())?;
+    let fails = Items::from_slice(alloc, &[fail])?;
+    let mut source = MemSource::slow(bytes, fails, 1);
+    read_whole(alloc, &mut source, limit)
+}
+
+fn assert_read(rt: &impl Abort, read: Result<Bytes, ReadEnd>, bytes: &[u8], end: Option<ReadEnd>) {
+    match read {
+        Ok(read) => {
+            assert_eq!(rt; end, None);
+            assert_eq!(rt; read.as_slice(), bytes);
+        }
+        Err(why) => assert_eq!(rt; Some(why), end),
+    }
+}
+
+/// The room, the call that is to fail, the text, what is then written, and whether it is the whole text.
+const SINKS: [(u64, u64, &str, &str, bool); 5] = [
+    (8, 9, "abcdefgh", "abcdefgh", true),
+    (4, 9, "abcdef", "abcd", false),
+    (8, 0, "a", "", false),
+    (8, 1, "abcd", "abcd", true),
+    (0, 9, "", "", true),
+];
+
+const SLOW_SINKS: [(u64, u64, &str, &str, bool); 4] = [
+    (8, 9, "abcd", "abcd", true),
+    (8, 2, "abcd", "ab", false),
+    (3, 9, "abcd", "abc", false),
+    (8, 4, "abcd", "abcd", true),
+];
+
+/// The bytes, the call that is to fail, the limit, and the error.
+const SOURCES: [(&str, u64, u64, Option<ReadEnd>); 6] = [
+    ("abcdef", 9, 6, None),
+    ("abcdef", 9, 5, Some(ReadEnd::TooLong)),
+    ("abcdef", 0, 6, Some(ReadEnd::Fault)),
+    ("abcdef", 1, 6, Some(ReadEnd::Fault)),
+    ("abcdef", 2, 6, None),
+    ("", 9, 0, None),
+];
+
+const SLOW_SOURCES: [(&str, u64, u64, Option<ReadEnd>); 6] = [
+    ("abcdef", 9, 6, None),
+    ("abcdef", 7, 6, None),
+    ("abcdef", 6, 6, Some(ReadEnd::Fault)),
+    ("abcdef", 3, 6, Some(ReadEnd::Fault)),
+    ("abcdef", 6, 5, Some(ReadEnd::TooLong)),
+    ("a", 9, 0, Some(ReadEnd::TooLong)),
+];
+
+#[test]
+fn sinks_and_sources_in_memory_keep_to_their_tables(rt: HostRuntime) {
+    let alloc = rt.alloc();
+    for (room, fail, piece, written, whole) in &SINKS {
+        assert_written(&rt, sink(alloc, *room, *fail), piece, written, *whole);
+    }
+    for (room, fail, piece, written, whole) in &SLOW_SINKS {
+        assert_written(&rt, slow_sink(alloc, *room, *fail), piece, written, *whole);
+    }
+    for (bytes, fail, limit, end) in &SOURCES {
+        assert_read(
+            &rt,
+            read_at_once(alloc, bytes, *fail, *limit),
+            bytes.as_bytes(),
+            *end,
+        );
+    }
+    for (bytes, fail, limit, end) in &SLOW_SOURCES {
+        assert_read(
+            &rt,
+            read_slowly(alloc, bytes, *fail, *limit),
+            bytes.as_bytes(),
+            *end,
+        );
+    }
+}
+
+fn two_files(alloc: Global) -> Result<MemFiles, NoMemory> {
+    let mut files = Items::new(alloc);
+    let name = Items::from_slice(alloc, b"a.c")?;
+    files.push((name, Items::from_slice(alloc, b"int x;")?))?;
+    let name = Items::from_slice(alloc, b"b.c")?;
+    files.push((name, Items::new(alloc)))?;
+    let fails = Items::from_slice(alloc, &[4])?;
+    Ok(MemFiles::new(files, fails))
+}
+
+/// Reads of files, of which the fifth is to fail: the name, the limit, and the bytes or the error.
+const FILES: [(&str, u64, &str, Option<ReadEnd>); 6] = [
+    ("a.c", 6, "int x;", None),
+    ("b.c", 0, "", None),
+    ("a.c", 5, "", Some(ReadEnd::TooLong)),
+    ("c.c", 5, "", Some(ReadEnd::Fault)),
+    ("a.c", 5, "", Some(ReadEnd::Fault)),
+    ("a.c", 6, "int x;", None),
+];
+
+#[test]
+fn files_in_memory_keep_to_their_table(rt: HostRuntime) {
+    let alloc = rt.alloc();
+    match two_files(alloc) {
+        Ok(mut files) => {
+            for (name, limit, bytes, end) in &FILES {
+                let read = files.read(alloc, name.as_bytes(), *limit);
+                assert_read(&rt, read, bytes.as_bytes(), *end);
+            }
+        }
+        Err(NoMemory) => assert!(rt; false),
+    }
+}
+
+const PLACE: Span = Span { start: 1, end: 2 };
+
+/// Each status and its number.
+const CODES: [(Status, u8); 24] = [
+    (Status::Done, 0),
+    (Status::Usage, 2),
+    (Status::FileFault, 3),
+    (Status::ReadFault, 4),
+    (Status::WriteFault, 5),
+    (Status::TooLong(Which::Input), 6),
+    (Status::Lex(3), 7),
+    (Status::Syntax(3), 8),
+    (Status::Check(3, PLACE), 9),
+    (Status::NoMemory, 10),
+    (Status::Trap(Reason::Null, PLACE), 11),
+    (Status::Spent, 12),
+    (Status::StackFull, 13),
+    (Status::OutputFull, 14),
+    (Status::TooDeep, 15),
+    (Status::ReservedName(PLACE), 16),
+    (Status::Stateful(PLACE), 17),
+    (Status::BadTrace(1, TraceRule::Form), 18),
+    (Status::Clash(1, PLACE), 21),
+    (Status::NoMain, 22),
+    (Status::NoBlock, 23),
+    (Status::InUnit(1, UnitFault::TooLong), 6),
+    (Status::InUnit(1, UnitFault::Check(3, PLACE)), 9),
+    (Status::InUnit(1, UnitFault::TooDeep), 15),
+];
+
+#[test]
+fn each_status_has_its_number(rt: HostRuntime) {
+    for (status, code) in &CODES {
+        assert_eq!(rt; status.code(), *code);
+    }
 }
 
 #[test]
-fn a_reserved_list_grows_in_its_room(rt: HostRuntime) -> Result<(), Fail> {
-    let mut list = Reserved::with_room(rt.alloc(), 2).map_err(|_| "no memory")?;
-    assert!(rt; list.room() >= 2);
+fn lists_words_and_gates_do_what_they_say(rt: HostRuntime) -> Result<(), Fail> {
+    let alloc = rt.alloc();
+    let mut list = Reserved::with_room(alloc, 2).map_err(|_| "no memory")?;
     list.push(7u32);
     list.push(8);
     list.set(0, 9);
     assert_eq!(rt; list.as_slice(), [9, 8].as_slice());
-    assert_eq!(rt; list.len(), 2);
     assert_eq!(rt; list.get(1), Some(&8));
     list.clear();
     list.reserve(3).map_err(|_| "no memory")?;
     assert!(rt; list.room() >= 3);
     list.push(5);
     assert_eq!(rt; list.into_items().as_slice(), [5].as_slice());
+    let words = FixedWords::new(Items::from_slice(alloc, &[5, 17])?);
+    for (k, word) in &[(0, 5), (1, 17), (2, 5), (5, 17)] {
+        assert_eq!(rt; words.word(9, *k), *word);
+    }
+    assert_eq!(rt; FixedWords::new(Items::new(alloc)).word(0, 3), 0);
+    NoGate.before(0, 0);
+    NoGate.inside(0, 0);
     Ok(())
 }
 
-#[test]
-fn a_sink_takes_all_bytes_in_its_room(rt: HostRuntime) -> Result<(), Fail> {
-    let mut sink = MemSink::new(rt.alloc(), 8, listed(rt.alloc(), &[])?).map_err(|_| "no memory")?;
-    assert!(rt; write_whole(&mut sink, b"abc").is_ok());
-    assert!(rt; write_whole(&mut sink, b"").is_ok());
-    assert!(rt; write_whole(&mut sink, b"defgh").is_ok());
-    assert_eq!(rt; sink.bytes(), b"abcdefgh".as_slice());
-    Ok(())
+/// A file that takes one byte of each piece.
+#[derive(Drop)]
+struct ByOne {
+    file: File,
+}
+
+impl Write for ByOne {
+    fn write(&mut self, piece: &[u8]) -> io::Result<usize> {
+        let count = piece.len().min(1);
+        self.file.write(&piece[..count])
+    }
+
+    fn flush(&mut self) -> io::Result<()> {
+        self.file.flush()
+    }
 }
 
 #[test]
-fn a_sink_fails_at_its_calls_and_where_its_room_is_used_up(rt: HostRuntime) -> Result<(), Fail> {
-    let mut sink = MemSink::new(rt.alloc(), 4, listed(rt.alloc(), &[1])?).map_err(|_| "no memory")?;
-    assert_eq!(rt; sink.write(b"ab"), Ok(2));
+fn a_short_write_is_not_the_whole(rt: HostRuntime) -> Result<(), Fail> {
+    let file = File::create(&rt, "a.txt")?;
+    let mut sink = RealSink::new(ByOne { file });
+    assert_eq!(rt; sink.write(b"some "), Ok(1));
     assert_eq!(rt; sink.write(b""), Ok(0));
-    assert_eq!(rt; sink.write(b"c"), Err(Failed));
-    assert!(rt; write_whole(&mut sink, b"defg").is_err());
-    assert_eq!(rt; sink.bytes(), b"abde".as_slice());
+    assert!(rt; write_whole(&mut sink, b"ome text").is_ok());
+    let mut files = RealFiles::new(&rt);
+    let read = files.read(rt.alloc(), b"a.txt", 9);
+    assert_read(&rt, read, b"some text", None);
     Ok(())
 }
 
-fn two_files(alloc: std::alloc::Global) -> Result<Items<(Bytes, Bytes)>, Fail> {
-    let mut files = Items::new(alloc);
-    files.push((
-        Items::from_slice(alloc, b"a.c")?,
-        Items::from_slice(alloc, b"int x;")?,
-    ))?;
-    files.push((Items::from_slice(alloc, b"b.c")?, Items::new(alloc)))?;
-    Ok(files)
-}
+/// Reads of files of the machine: the name, the limit, and the error.
+const REAL_FILES: [(&[u8], u64, Option<ReadEnd>); 5] = [
+    (b"a.txt", 9, None),
+    (b"a.txt", 8, Some(ReadEnd::TooLong)),
+    (b"a.txt", 0, Some(ReadEnd::TooLong)),
+    (b"missing.txt", 8, Some(ReadEnd::Fault)),
+    (b"\xff", 8, Some(ReadEnd::Fault)),
+];
 
 #[test]
-fn files_in_memory_are_read_up_to_the_limit(rt: HostRuntime) -> Result<(), Fail> {
+fn real_files_and_sources_do_the_same(rt: HostRuntime) -> Result<(), Fail> {
     let alloc = rt.alloc();
-    let mut files = MemFiles::new(two_files(alloc)?, listed(alloc, &[4])?);
-    let whole = files.read(alloc, b"a.c", 6);
-    assert_eq!(rt;
-        whole.map_err(|_| "not read")?.as_slice(),
-        b"int x;".as_slice()
-    );
-    let empty = files.read(alloc, b"b.c", 0);
-    assert_eq!(rt; empty.map_err(|_| "not read")?.as_slice(), b"".as_slice());
-    assert!(rt; matches!(files.read(alloc, b"a.c", 5), Err(ReadEnd::TooLong)));
-    assert!(rt; matches!(files.read(alloc, b"c.c", 5), Err(ReadEnd::Fault)));
-    assert!(rt; matches!(files.read(alloc, b"a.c", 6), Err(ReadEnd::Fault)));
-    Ok(())
-}
-
-#[test]
-fn real_files_and_sinks_do_the_same(rt: HostRuntime) -> Result<(), Fail> {
-    let alloc = rt.alloc();
-    let mut sink = RealSink::new(fs::File::create(&rt, "a.txt")?);
+    let mut sink = RealSink::new(File::create(&rt, "a.txt")?);
     assert!(rt; write_whole(&mut sink, b"some text").is_ok());
     let mut files = RealFiles::new(&rt);
-    let whole = files.read(alloc, b"a.txt", 9);
-    assert_eq!(rt;
-        whole.map_err(|_| "not read")?.as_slice(),
-        b"some text".as_slice()
+    for (name, limit, end) in &REAL_FILES {
+        assert_read(&rt, files.read(alloc, name, *limit), b"some text", *end);
+    }
+    let mut source = RealSource::new(File::open(&rt, "a.txt")?);
+    let mut first = [0; 1];
+    assert_eq!(rt; source.read(&mut []), Ok(0));
+    assert_eq!(rt; source.read(&mut first), Ok(1));
+    assert_read(&rt, read_whole(alloc, &mut source, 8), b"ome text", None);
+    let mut long = RealSource::new(File::open(&rt, "a.txt")?);
+    assert_read(
+        &rt,
+        read_whole(alloc, &mut long, 8),
+        b"",
+        Some(ReadEnd::TooLong),
     );
-    assert!(rt; matches!(files.read(alloc, b"a.txt", 8), Err(ReadEnd::TooLong)));
-    assert!(rt; matches!(files.read(alloc, b"missing.txt", 8), Err(ReadEnd::Fault)));
-    assert!(rt; matches!(files.read(alloc, b"\xff", 8), Err(ReadEnd::Fault)));
+    let mut unreadable = RealSource::new(File::create(&rt, "b.txt")?);
+    assert_eq!(rt; unreadable.read(&mut first), Err(Failed));
     Ok(())
-}
-
-#[test]
-fn each_status_has_its_number(rt: HostRuntime) {
-    assert_eq!(rt; Status::Done.code(), 0);
-    assert_eq!(rt; Status::Usage.code(), 2);
-    assert_eq!(rt; Status::FileFault.code(), 3);
-    assert_eq!(rt; Status::WriteFault.code(), 5);
-    assert_eq!(rt; Status::NoMemory.code(), 10);
-    assert_eq!(rt; Status::TooLong(Which::Unit).code(), 6);
-    assert_eq!(rt; Status::Lex(3).code(), 7);
-    assert_eq!(rt; Status::Syntax(3).code(), 8);
-    assert_eq!(rt; Status::TooDeep.code(), 15);
 }
