@@ -1,18 +1,18 @@
 -- A well-formed unit has at most one node for each token that it spells: each form pays for its own node, and what one form
 -- leaves over pays for another.
-use Rattle.std.proofs.Common.{◌≡◌, ◌≤◌, ◌<◌, ◌+◌, ℕ, suc, Bool, true, false, List, [], ◌∷◌, length, map, Option, Some, None, IsSome, refl, sym, ap, subst, arith, All}
+use Rattle.std.proofs.Common.{◌≡◌, ◌≤◌, ◌<◌, ◌+◌, ℕ, suc, Bool, true, false, List, [], ◌∷◌, length, map, Option, Some, None, IsSome, refl, ap, arith, All}
 use Rattle.std.specs.List.{AllByRecursion}
 use Rattle.std.proofs.lemmas.List.Elements.{All-nil, All-cons}
 use Rattle.c_tree.specs.Tok as t
-use Rattle.c_tree.specs.Tok.{Word, word, mark, name, text}
-use Rattle.c_tree.specs.Marks.{binary_mark, assign_mark, prefix_mark, step_mark, record_word}
+use Rattle.c_tree.specs.Tok.{Word, word, mark, name}
+use Rattle.c_tree.specs.Marks.{binary_mark, assign_mark, step_mark}
 use Rattle.c_tree.specs.Tree as u
 use Rattle.c_tree.specs.Marked as m
 use Rattle.c_tree.specs.Marked.{Expr, Exprs, MaybeExpr, Specs, Fields, MaybeFields, Declarators, Declarator, MaybeDeclarator, Enumerators, MaybeEnumerators, Params, Init, Inits, MaybeInit, Item, Declaration, First, Stmt, BlockItems, External, Entry, Argument, Attribute}
 use Rattle.c_tree.specs.Bare.{bare, bare_exprs, bare_maybe, bare_specs, bare_body, bare_fields, bare_declarators, bare_list, bare_enumerators, bare_maybe_declarator, bare_declarator, bare_params, bare_init, bare_inits, bare_maybe_init, bare_item, bare_declaration, bare_first, bare_stmt, bare_block, bare_external, bare_unit, bare_argument, bare_arguments, bare_entry, bare_attribute}
 use Rattle.c_tree.specs.Put.{toks}
 use Rattle.c_tree.specs.Wf.{Env, Wf, WfAll, WfSome, WfMaybe, WfSpecs, WfBody, WfFields, WfMoreFields, WfDeclarators, WfMoreDeclarators, WfList, WfEnumerators, WfMoreEnumerators, WfAbstract, WfEither, WfDeclarator, WfParams, WfInit, WfInits, WfMoreInits, WfMaybeInit, WfItems, WfDeclaration, WfFirst, WfStmt, WfBlock, WfExternal, WfUnit, WfTexts, WfArgument, WfArguments, WfAttribute, declared_name, after_declarator, after_declaration, after_first, after_stmt, after_external, specified}
-use Rattle.c_tree.specs.Pieces.{Piece, token, opens, closes, absent, tokens_of, pieces, pieces_exprs, pieces_more_exprs, pieces_maybe, pieces_value, pieces_type, pieces_specs, pieces_body, pieces_fields, pieces_declarators, pieces_more_declarators, pieces_list, pieces_enumerators, pieces_more_enumerators, pieces_maybe_declarator, pieces_declarator, pieces_params, pieces_more_params, pieces_init, pieces_inits, pieces_more_inits, pieces_maybe_init, pieces_item, pieces_declaration, pieces_first, pieces_stmt, pieces_block, pieces_external, pieces_unit, pieces_all, pieces_more, pieces_commas, pieces_name, pieces_comma_if, pieces_text, pieces_word, pieces_argument, pieces_arguments, pieces_entry, pieces_attribute}
+use Rattle.c_tree.specs.Pieces.{Piece, token, opens, closes, absent, tokens_of, pieces, pieces_exprs, pieces_more_exprs, pieces_maybe, pieces_value, pieces_specs, pieces_body, pieces_fields, pieces_declarators, pieces_more_declarators, pieces_list, pieces_enumerators, pieces_more_enumerators, pieces_maybe_declarator, pieces_declarator, pieces_params, pieces_more_params, pieces_init, pieces_inits, pieces_more_inits, pieces_maybe_init, pieces_item, pieces_declaration, pieces_first, pieces_stmt, pieces_block, pieces_external, pieces_unit, pieces_all, pieces_more, pieces_commas, pieces_name, pieces_comma_if, pieces_text, pieces_word, pieces_argument, pieces_arguments, pieces_entry, pieces_attribute}
 use Rattle.c_tree.specs.Places.{Numbered}
 use Rattle.c_tree.specs.Nodes.{numbers_of, NodesAreFew, NumbersAreLow, NodesAreAsMany}
 use Rattle.c_tree.proofs.Pieces.{kept_unit}

@@ -1,5 +1,5 @@
 -- How many nodes a unit has, beside the tokens that it spells.
-use Rattle.std.specs.Prelude.{◌≡◌, ◌≤◌, ◌<◌, ℕ, suc, List, [], ◌∷◌, length, All}
+use Rattle.std.specs.Prelude.{◌≡◌, ◌≤◌, ◌<◌, ℕ, List, [], ◌∷◌, length, All}
 use Rattle.c_tree.specs.Marked.{External}
 use Rattle.c_tree.specs.Bare.{bare_unit}
 use Rattle.c_tree.specs.Put.{toks}
