@@ -21,6 +21,3 @@ pub use promises::{
     decimal_law, join_law, lines_law, one_value, one_way, plain_law, print_law, tokens_law,
 };
 pub use token::LexEnd;
-
-#[cfg(test)]
-mod tests;

@@ -1,6 +1,6 @@
 //! One piece of a text: a separator or a token.
 
-ghost use Rattle.std.specs.Prelude.{◌≡◌, ◌≤◌, length};
+ghost use Rattle.std.specs.Prelude.{◌≡◌};
 ghost use Rattle.c_lexer.specs.Scan as scan;
 ghost use Rattle.c_lexer.specs.Scan.{IsWithin};
 

@@ -7,6 +7,3 @@
 mod printer;
 
 pub use printer::print_unit;
-
-#[cfg(test)]
-mod tests;

@@ -1,12 +1,12 @@
 -- The least depths grow with what stands inside, and are at least the nodes that are open and what stands inside.
 use Rattle.std.proofs.Common.{◌≡◌, ℕ, suc, ◌≤◌, ◌+◌, max, List, [], ◌∷◌, ◌++◌, refl, le_refl, arith}
 use Rattle.c_tree.specs.Tree as u
-use Rattle.c_tree.specs.Tree.{BinaryOp, AssignOp, PrefixOp, Step, Argument, Entry, Expr, Exprs, MaybeExpr, Specs, MaybeFields, Fields, Declarators, MaybeEnumerators, Enumerators, MaybeDeclarator, Declarator, Params, Init, Inits, MaybeInit, Item, Declaration, First, Stmt, BlockItems, External}
+use Rattle.c_tree.specs.Tree.{Expr, Specs, Declarator, Init, Item, BlockItems}
 use Rattle.c_tree.specs.Depth.{greatest, attribute_depth, depth, exprs_depth, maybe_depth, specs_depth, fields_depth, declarators_depth, enumerators_depth, maybe_declarator_depth, declarator_depth, params_depth, init_depth, inits_depth, item_depth, declaration_depth, first_depth, stmt_depth, block_depth}
 use Rattle.c_reader.specs.Parts as p
-use Rattle.c_reader.specs.Parts.{Spec, Field, Enumerator, Param, BlockItem, exprs_of, with_spec, specs_of, fields_of, declarators_of, enumerators_of, params_of, inits_of, with_item, items_of, no_specs, is_typedef, add_keyword, add_type, add_attribute}
+use Rattle.c_reader.specs.Parts.{Spec, Field, Enumerator, Param, BlockItem, exprs_of, with_spec, specs_of, fields_of, declarators_of, enumerators_of, params_of, inits_of, with_item, items_of}
 use Rattle.c_reader.specs.Inside as i
-use Rattle.c_reader.specs.Inside.{InStmt, InBody, InDeclaration, InInit, Condition, Part, Operand, Callee, Bracket, TypePlace, InExpr, InDeclarator, InSpecs, InFields, InEnum, InParams, InAttribute, AttributeMode, SpecsMode, DeclaratorMode, ExprMode, Unended, StmtMode, Mode, InItems, ItemRead, State, in_block, in_then, in_else, in_while, in_do, in_for, of_definition, of_stmt, of_external, of_block, of_for, of_item, in_braces, of_if, of_while, of_do, plain, returned, condition, for_first, for_condition, for_step, of_prefix, of_sizeof, of_cast, of_binary, of_assign, of_comma, of_cond, of_function, of_builtin, of_paren, of_index, of_args, of_middle, cast_type, sizeof_type, in_operand, in_bracket, in_stmt, in_init, in_value, in_array, in_pointer, in_group, in_item, in_field, in_param, in_type, of_declaration, of_field, of_param, of_type, in_fields, in_enum, in_params, of_specs, of_read, attribute_word, attribute_opened, entries_opened, want_entry, after_entry_name, arguments_opened, want_argument, after_argument, after_entry, attribute_closing, in_specs, after_tagged, after_tag, want_field, want_enumerator, after_enumerator, want_param, want_declarator, after_star, declarator_opened, array_opened, params_opened, want_expr, after_expr, after_text, opened, after_sizeof, sizeof_opened, args_opened, after_builtin, want_member, broken, continued, done_while, want_stmt, want_paren, after_for, for_opened, want_condition, want_step, want_semi, after_return, want_external, in_attribute, specs, declarator, after_attributes, want_init, after_init, expr, stmt}
+use Rattle.c_reader.specs.Inside.{InStmt, InBody, InDeclaration, InInit, Condition, Part, Operand, Bracket, InExpr, InDeclarator, InSpecs, InFields, InEnum, InParams, InAttribute, AttributeMode, SpecsMode, DeclaratorMode, ExprMode, Unended, StmtMode, Mode, ItemRead, in_block, in_then, in_else, in_while, in_do, in_for, of_definition, of_stmt, of_external, of_block, of_for, of_item, in_braces, of_if, of_while, of_do, plain, returned, condition, for_first, for_condition, for_step, of_prefix, of_sizeof, of_cast, of_binary, of_assign, of_comma, of_cond, of_paren, of_index, of_args, of_middle, in_operand, in_bracket, in_stmt, in_init, in_value, in_array, in_pointer, in_group, in_item, in_field, in_param, in_type, of_declaration, of_field, of_param, of_type, in_fields, in_enum, in_params, of_specs, of_read, attribute_word, attribute_opened, entries_opened, want_entry, after_entry_name, arguments_opened, want_argument, after_argument, after_entry, attribute_closing, in_specs, after_tagged, after_tag, want_field, want_enumerator, after_enumerator, want_param, want_declarator, after_star, declarator_opened, array_opened, params_opened, want_expr, after_expr, after_text, opened, after_sizeof, sizeof_opened, args_opened, after_builtin, want_member, broken, continued, done_while, want_stmt, want_paren, after_for, for_opened, want_condition, want_step, want_semi, after_return, want_external, in_attribute, specs, declarator, after_attributes, want_init, after_init, expr, stmt}
 use Rattle.c_reader.specs.Above.{above_stmt, above_body, above_declaration, item_above, first_above, items_above, above_read, above_init, condition_depth, part_depth, operand_depth, bracket_depth, above_expr, above_declarator, above_specs, above_fields, above_enum, above_params, above_attribute, attribute_so_far, specs_so_far, items_want, want_above, declarator_so_far, expr_so_far, unended_depth, stmt_so_far, so_far, height_stmt, height_body, height_declaration, height_first, items_height, height_read, height_init, height_expr, height_declarator, height_specs, height_fields, height_enum, height_params, height_attribute, items_want_height, want_height, specs_height, declarator_height, expr_height, stmt_height, height_of}
 
 -- ---- they grow with what stands there

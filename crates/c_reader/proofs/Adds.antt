@@ -1,18 +1,18 @@
 -- A step keeps what holds of a state and adds its token: specs and expressions begin, items and initialisers end.
 use Rattle.std.proofs.Common.{◌≡◌, ◌⊎◌, inl, inr, Bool, true, false, ◌||◌, if◌then◌else◌, List, [], ◌∷◌, ◌++◌, Option, Some, None, IsSome, refl, sym, ◌∙◌, ap, subst, arith}
 use Rattle.c_tree.specs.Tok as g
-use Rattle.c_tree.specs.Tok.{Tok, Word, Punct, mark, word}
+use Rattle.c_tree.specs.Tok.{Tok, mark, word}
 use Rattle.c_tree.specs.Marks.{prefix_mark}
 use Rattle.c_tree.specs.Tree as u
-use Rattle.c_tree.specs.Tree.{BinaryOp, AssignOp, PrefixOp, Step, Argument, Entry, Expr, Exprs, MaybeExpr, Specs, MaybeFields, Fields, Declarators, MaybeEnumerators, Enumerators, MaybeDeclarator, Declarator, Params, Init, Inits, MaybeInit, Item, Declaration, First, Stmt, BlockItems, External}
+use Rattle.c_tree.specs.Tree.{BinaryOp, PrefixOp, Specs, Declarator, Init, MaybeInit, Item, Declaration}
 use Rattle.c_tree.specs.Put.{put_specs, put_declarator, put_init, put_maybe_init, put_item, put_declaration, put_external}
 use Rattle.c_tree.specs.Wf.{Env, is_type, is_specifier, is_qualifier, is_storage, specified, has_typedef, declared_name, leading_name, IsApart, IsPlain, IsFunction, WfSpecs, WfDeclarator, WfInit, WfMoreInits, WfMaybeInit, with_name, after_declarator, after_declaration, WfDeclaration}
 use Rattle.c_reader.specs.Symbol as t
-use Rattle.c_reader.specs.Symbol.{Keyword, Tagged, Head, Negation, Member, Operator, Symbol, keyword_word, tagged_word, head_word, operator_mark, member_mark, negation_mark, tok, tok_symbol}
+use Rattle.c_reader.specs.Symbol.{Keyword, Operator, Symbol, keyword_word, tagged_word, tok}
 use Rattle.c_reader.specs.Parts as p
-use Rattle.c_reader.specs.Parts.{Spec, Field, Enumerator, Param, BlockItem, exprs_of, with_spec, specs_of, fields_of, declarators_of, enumerators_of, params_of, inits_of, with_item, items_of, no_specs, is_typedef, add_keyword, add_type, add_attribute}
+use Rattle.c_reader.specs.Parts.{specs_of, inits_of, no_specs}
 use Rattle.c_reader.specs.Inside.{InDeclaration, InInit, InExpr, InSpecs, InItems, ItemRead, State, of_external, of_block, of_for, of_item, in_braces, in_init}
-use Rattle.c_reader.specs.Begin.{is_empty, begins_specs, open_spec, binary_prefix, step_prefix, negation_prefix, operator_prefix, want_operand, want}
+use Rattle.c_reader.specs.Begin.{is_empty, begins_specs, open_spec, binary_prefix, operator_prefix, want_operand, want}
 use Rattle.c_reader.specs.Declarations.{is_equals, declaration_done, items_done, add_item, item_end, item_next, is_plain, is_function, open_body, close_item, braces_next, init_next, close_braces, init_begin}
 use Rattle.c_reader.specs.Declarators.{is_star}
 use Rattle.c_reader.specs.Exprs.{place}

@@ -1,14 +1,14 @@
 -- What an attribute spells is read as that attribute.
 use Rattle.std.proofs.Common.{◌≡◌, ℕ, Bool, true, false, List, [], ◌∷◌, ◌++◌, Option, Some, None, refl, sym, ◌∙◌, ap, append_assoc, append-nil}
 use Rattle.c_tree.specs.Tok as g
-use Rattle.c_tree.specs.Tok.{Tok, Word, Punct, mark, word}
+use Rattle.c_tree.specs.Tok.{Tok, mark}
 use Rattle.c_tree.specs.Tree as u
-use Rattle.c_tree.specs.Tree.{BinaryOp, AssignOp, PrefixOp, Step, Argument, Entry, Expr, Exprs, MaybeExpr, Specs, MaybeFields, Fields, Declarators, MaybeEnumerators, Enumerators, MaybeDeclarator, Declarator, Params, Init, Inits, MaybeInit, Item, Declaration, First, Stmt, BlockItems, External}
+use Rattle.c_tree.specs.Tree.{Argument, Entry}
 use Rattle.std.specs.List.{AllByRecursion}
 use Rattle.c_tree.specs.Put.{put_all, put_more, put_commas, put_text, put_argument, put_arguments, put_entry}
 use Rattle.c_tree.specs.Wf.{Env, WfArgument, WfArguments, WfAttribute}
 use Rattle.c_reader.specs.Symbol as t
-use Rattle.c_reader.specs.Symbol.{Keyword, Tagged, Head, Negation, Member, Operator, Symbol, keyword_word, tagged_word, head_word, operator_mark, member_mark, negation_mark, tok, tok_symbol}
+use Rattle.c_reader.specs.Symbol.{Symbol}
 use Rattle.c_reader.specs.Inside.{InAttribute, AttributeMode, State, attribute_word, after_entry_name, arguments_opened, want_argument, after_argument, after_entry, attribute_closing, in_attribute}
 use Rattle.c_reader.specs.Specs.{attribute_done, add_entry, entry_end, entry_next}
 use Rattle.c_reader.specs.Machine.{run}

@@ -1,7 +1,7 @@
 -- The tokens before what is still to come.
 use Rattle.std.proofs.Common.{List, [], ◌∷◌}
 use Rattle.c_tree.specs.Tok as g
-use Rattle.c_tree.specs.Tok.{Tok, name, number, text, word, mark}
+use Rattle.c_tree.specs.Tok.{Tok, name, text, word, mark}
 use Rattle.c_tree.specs.Marks.{binary_mark, assign_mark, prefix_mark, record_word}
 use Rattle.c_tree.specs.Put.{put, put_all, put_commas, put_name, put_word, put_argument, put_entry, put_attribute, put_maybe, put_specs, put_fields, put_value, put_maybe_declarator, put_declarator, put_init, put_item, put_first, put_stmt, put_block, put_unit}
 use Rattle.c_reader.specs.Symbol.{tagged_word, member_mark}

@@ -1,22 +1,22 @@
 -- What a well-formed expression, specs and a declarator spell is read as them.
 use Rattle.std.proofs.Common.{◌≡◌, ℕ, ◌≤◌, ◌<◌, Bool, true, false, List, [], ◌∷◌, ◌++◌, Option, Some, None, IsSome, refl, sym, ◌∙◌, ap, append_assoc, append-nil, arith}
 use Rattle.c_tree.specs.Tok as g
-use Rattle.c_tree.specs.Tok.{Tok, Word, Punct, mark, word}
+use Rattle.c_tree.specs.Tok.{Tok, Word, mark, word}
 use Rattle.c_tree.specs.Marks.{prefix_mark, record_word}
 use Rattle.c_tree.specs.Tree as u
-use Rattle.c_tree.specs.Tree.{BinaryOp, AssignOp, PrefixOp, Step, Argument, Entry, Expr, Exprs, MaybeExpr, Specs, MaybeFields, Fields, Declarators, MaybeEnumerators, Enumerators, MaybeDeclarator, Declarator, Params, Init, Inits, MaybeInit, Item, Declaration, First, Stmt, BlockItems, External}
+use Rattle.c_tree.specs.Tree.{PrefixOp, Expr, Exprs, MaybeExpr, Specs, MaybeFields, Fields, Declarators, MaybeEnumerators, Enumerators, MaybeDeclarator, Declarator, Params}
 use Rattle.c_tree.specs.Put.{put_name, put_comma_if, put, put_exprs, put_more_exprs, put_maybe, put_specs, put_body, put_fields, put_declarators, put_more_declarators, put_list, put_enumerators, put_more_enumerators, put_value, put_maybe_declarator, put_declarator, put_params, put_more_params}
 use Rattle.c_tree.specs.Wf.{Env, is_type, prec, level, specified, declared_name, IsSpelled, Wf, WfAll, WfSome, WfMaybe, WfSpecs, WfBody, WfFields, WfMoreFields, WfDeclarators, WfMoreDeclarators, WfList, WfEnumerators, WfMoreEnumerators, WfDeclarator, WfParams}
 use Rattle.c_reader.specs.Symbol as t
-use Rattle.c_reader.specs.Symbol.{Keyword, Tagged, Head, Negation, Member, Operator, Symbol, keyword_word, tagged_word, head_word, operator_mark, member_mark, negation_mark, tok, tok_symbol}
+use Rattle.c_reader.specs.Symbol.{Symbol, tok}
 use Rattle.c_reader.specs.Parts as p
-use Rattle.c_reader.specs.Parts.{Spec, Field, Enumerator, Param, BlockItem, exprs_of, with_spec, specs_of, fields_of, declarators_of, enumerators_of, params_of, inits_of, with_item, items_of, no_specs, is_typedef, add_keyword, add_type, add_attribute}
+use Rattle.c_reader.specs.Parts.{Field, Enumerator, Param, exprs_of, fields_of, enumerators_of, params_of, no_specs, add_keyword, add_type, add_attribute}
 use Rattle.c_reader.specs.Inside as i
-use Rattle.c_reader.specs.Inside.{InStmt, InBody, InDeclaration, InInit, Condition, Part, Operand, Callee, Bracket, TypePlace, InExpr, InDeclarator, InSpecs, InFields, InEnum, InParams, InAttribute, AttributeMode, SpecsMode, DeclaratorMode, ExprMode, Unended, StmtMode, Mode, InItems, ItemRead, State, in_block, in_then, in_else, in_while, in_do, in_for, of_definition, of_stmt, of_external, of_block, of_for, of_item, in_braces, of_if, of_while, of_do, plain, returned, condition, for_first, for_condition, for_step, of_prefix, of_sizeof, of_cast, of_binary, of_assign, of_comma, of_cond, of_function, of_builtin, of_paren, of_index, of_args, of_middle, cast_type, sizeof_type, in_operand, in_bracket, in_stmt, in_init, in_value, in_array, in_pointer, in_group, in_item, in_field, in_param, in_type, of_declaration, of_field, of_param, of_type, in_fields, in_enum, in_params, of_specs, of_read, attribute_word, attribute_opened, entries_opened, want_entry, after_entry_name, arguments_opened, want_argument, after_argument, after_entry, attribute_closing, in_specs, after_tagged, after_tag, want_field, want_enumerator, after_enumerator, want_param, want_declarator, after_star, declarator_opened, array_opened, params_opened, want_expr, after_expr, after_text, opened, after_sizeof, sizeof_opened, args_opened, after_builtin, want_member, broken, continued, done_while, want_stmt, want_paren, after_for, for_opened, want_condition, want_step, want_semi, after_return, want_external, in_attribute, specs, declarator, after_attributes, want_init, after_init, expr, stmt}
+use Rattle.c_reader.specs.Inside.{Operand, Callee, InExpr, InDeclarator, InSpecs, InFields, InEnum, Mode, State, of_prefix, of_sizeof, of_cast, of_binary, of_assign, of_comma, of_cond, of_function, of_builtin, of_paren, of_index, of_args, of_middle, cast_type, sizeof_type, in_operand, in_bracket, in_value, in_array, in_pointer, in_group, in_field, of_field, of_param, of_type, in_fields, in_enum, in_params, of_specs, in_specs, want_field, want_enumerator, after_enumerator, want_param, want_declarator, array_opened, params_opened, want_expr, after_expr, opened, sizeof_opened, args_opened, want_member, specs, declarator, expr}
 use Rattle.c_reader.specs.Begin.{is_empty, open_spec, want_operand}
 use Rattle.c_reader.specs.Declarators.{may_be_named, add_field, field_next, param_next, params_next}
 use Rattle.c_reader.specs.Specs.{field_begin, add_enumerator, enumerator_end}
-use Rattle.c_reader.specs.Exprs.{operand_place, bracket_place, place, operator_tight, tight, operator_needs, needs, take_operator, take_expr, close_paren, close_index, call_of, close_args, close_middle, close_bracket, part_semi, condition_done, part_paren, close_part, close_array, close, made, reduced, take, next, after, text_next, open_cast, sizeof_paren_next, sizeof_next, args_begin, builtin_next, member_of, member_next, expr_next}
+use Rattle.c_reader.specs.Exprs.{operand_place, place, tight, needs, take_expr, call_of, made}
 use Rattle.c_reader.specs.Machine.{step, run}
 use Rattle.c_reader.specs.Exprs as exprs
 use Rattle.c_reader.proofs.Go.{at, nat_le_true, pick, skip, goes, Starts}

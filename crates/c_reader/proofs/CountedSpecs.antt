@@ -13,7 +13,7 @@ use Rattle.c_reader.specs.Begin.{is_empty, begins_specs}
 use Rattle.c_reader.specs.Declarations.{is_equals}
 use Rattle.c_reader.specs.Above.{arguments_depth, attribute_so_far}
 use Rattle.c_reader.specs.MarkedParts as p
-use Rattle.c_reader.specs.MarkedParts.{Open, mark, opens, with_part, whole, Spec, SpecsRead, ArgumentRead, number_read, text_read, argument_of, specs_of, fields_of, enumerators_of, add_type, add_attribute}
+use Rattle.c_reader.specs.MarkedParts.{Open, mark, with_part, whole, Spec, SpecsRead, ArgumentRead, number_read, text_read, argument_of, specs_of, fields_of, enumerators_of, add_type, add_attribute}
 use Rattle.c_reader.specs.MarkedInside.{InSpecs, InFields, InEnum, InAttribute, of_declaration, of_field, of_param, of_type, in_fields, in_enum, of_specs, of_read, AttributeMode, attribute_word, attribute_opened, entries_opened, want_entry, after_entry_name, arguments_opened, want_argument, after_argument, after_entry, attribute_closing, around_enum, specs_level}
 use Rattle.c_reader.specs.MarkedBegin as rb
 use Rattle.c_reader.specs.MarkedDeclarators as rd

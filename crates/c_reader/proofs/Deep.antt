@@ -2,20 +2,20 @@
 use Rattle.std.proofs.Common.{◌≡◌, ℕ, suc, ◌≤◌, max, nat_le, false, if◌then◌else◌, List, [], ◌∷◌, ◌++◌, Option, Some, None, refl, sym, ◌∙◌, ap, subst, le_trans, le_refl, arith}
 use Rattle.c_tree.specs.Tok.{Tok}
 use Rattle.c_tree.specs.Tree as u
-use Rattle.c_tree.specs.Tree.{BinaryOp, AssignOp, PrefixOp, Step, Argument, Entry, Expr, Exprs, MaybeExpr, Specs, MaybeFields, Fields, Declarators, MaybeEnumerators, Enumerators, MaybeDeclarator, Declarator, Params, Init, Inits, MaybeInit, Item, Declaration, First, Stmt, BlockItems, External}
+use Rattle.c_tree.specs.Tree.{Expr, Exprs, MaybeExpr, Declarator, First, Stmt, BlockItems, External}
 use Rattle.c_tree.specs.Put.{toks}
 use Rattle.c_tree.specs.Wf.{Env, level, WfUnit}
 use Rattle.c_tree.specs.Depth.{depth, exprs_depth, maybe_depth, declarator_depth, first_depth, stmt_depth, block_depth, external_depth, unit_depth}
 use Rattle.c_reader.specs.Symbol as t
-use Rattle.c_reader.specs.Symbol.{Keyword, Tagged, Head, Negation, Member, Operator, Symbol, keyword_word, tagged_word, head_word, operator_mark, member_mark, negation_mark, tok, tok_symbol}
+use Rattle.c_reader.specs.Symbol.{Head, Member, Operator, Symbol, tok_symbol}
 use Rattle.c_reader.specs.Parts as p
-use Rattle.c_reader.specs.Parts.{Spec, Field, Enumerator, Param, BlockItem, exprs_of, with_spec, specs_of, fields_of, declarators_of, enumerators_of, params_of, inits_of, with_item, items_of, no_specs, is_typedef, add_keyword, add_type, add_attribute}
+use Rattle.c_reader.specs.Parts.{exprs_of, items_of, no_specs}
 use Rattle.c_reader.specs.Inside as i
-use Rattle.c_reader.specs.Inside.{InStmt, InBody, InDeclaration, InInit, Condition, Part, Operand, Callee, Bracket, TypePlace, InExpr, InDeclarator, InSpecs, InFields, InEnum, InParams, InAttribute, AttributeMode, SpecsMode, DeclaratorMode, ExprMode, Unended, StmtMode, Mode, InItems, ItemRead, State, in_block, in_then, in_else, in_while, in_do, in_for, of_definition, of_stmt, of_external, of_block, of_for, of_item, in_braces, of_if, of_while, of_do, plain, returned, condition, for_first, for_condition, for_step, of_prefix, of_sizeof, of_cast, of_binary, of_assign, of_comma, of_cond, of_function, of_builtin, of_paren, of_index, of_args, of_middle, cast_type, sizeof_type, in_operand, in_bracket, in_stmt, in_init, in_value, in_array, in_pointer, in_group, in_item, in_field, in_param, in_type, of_declaration, of_field, of_param, of_type, in_fields, in_enum, in_params, of_specs, of_read, attribute_word, attribute_opened, entries_opened, want_entry, after_entry_name, arguments_opened, want_argument, after_argument, after_entry, attribute_closing, in_specs, after_tagged, after_tag, want_field, want_enumerator, after_enumerator, want_param, want_declarator, after_star, declarator_opened, array_opened, params_opened, want_expr, after_expr, after_text, opened, after_sizeof, sizeof_opened, args_opened, after_builtin, want_member, broken, continued, done_while, want_stmt, want_paren, after_for, for_opened, want_condition, want_step, want_semi, after_return, want_external, in_attribute, specs, declarator, after_attributes, want_init, after_init, expr, stmt}
+use Rattle.c_reader.specs.Inside.{InStmt, InBody, Condition, Part, Operand, Callee, Bracket, InExpr, InDeclarator, ExprMode, Unended, StmtMode, Mode, State, in_block, in_then, in_else, in_while, in_do, in_for, of_definition, of_stmt, of_external, of_block, of_for, of_if, of_while, of_do, plain, returned, condition, for_first, for_condition, for_step, of_prefix, of_sizeof, of_cast, of_binary, of_assign, of_comma, of_cond, of_function, of_builtin, of_paren, of_index, of_args, of_middle, cast_type, sizeof_type, in_operand, in_bracket, in_stmt, in_init, in_value, in_array, of_declaration, of_type, want_expr, after_expr, after_text, opened, after_sizeof, sizeof_opened, args_opened, after_builtin, want_member, broken, continued, done_while, want_stmt, want_paren, after_for, for_opened, want_condition, want_step, want_semi, after_return, want_external, in_attribute, specs, declarator, after_attributes, want_init, after_init, expr, stmt}
 use Rattle.c_reader.specs.Begin.{begins_specs, open_spec, want}
-use Rattle.c_reader.specs.Exprs.{operand_place, bracket_place, place, operator_tight, tight, operator_needs, needs, take_operator, take_expr, close_paren, close_index, call_of, close_args, close_middle, close_bracket, part_semi, condition_done, part_paren, close_part, close_array, close, made, reduced, take, next, after, text_next, open_cast, sizeof_paren_next, sizeof_next, args_begin, builtin_next, member_of, member_next, expr_next}
-use Rattle.c_reader.specs.Stmts.{head_begin, block_done, close_block, declaration_begin, stmt_begin, is_else_word, is_else, is_while_word, is_while, stmt_next, for_next, for_begin, condition_begin, step_begin, ended, semi_next, return_next, stmt_mode_next}
-use Rattle.c_reader.specs.Machine.{specs_mode_next, declarator_mode_next, step_at, step, Read, step_tok, on_step, run, unit_at, Answer, answer_end, answer}
+use Rattle.c_reader.specs.Exprs.{operand_place, place, tight, needs, take_operator, take_expr, close_paren, close_index, call_of, close_args, close_middle, close_bracket, part_semi, condition_done, part_paren, close_part, close_array, close, made, reduced, take, next, after, text_next, open_cast, sizeof_paren_next, sizeof_next, args_begin, builtin_next, member_next, expr_next}
+use Rattle.c_reader.specs.Stmts.{head_begin, block_done, close_block, declaration_begin, stmt_begin, is_else, is_while, stmt_next, for_next, for_begin, condition_begin, step_begin, ended, semi_next, return_next, stmt_mode_next}
+use Rattle.c_reader.specs.Machine.{step_at, Read, step_tok, on_step, run, unit_at, Answer, answer_end, answer}
 use Rattle.c_reader.specs.Above.{above_stmt, above_body, condition_depth, part_depth, operand_depth, callee_depth, bracket_depth, above_expr, above_declarator, expr_so_far, unended_depth, stmt_so_far, so_far}
 use Rattle.c_reader.specs.Exprs as exprs
 use Rattle.c_reader.specs.Stmts as stmts

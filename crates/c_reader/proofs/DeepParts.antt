@@ -2,16 +2,16 @@
 use Rattle.std.proofs.Common.{◌≡◌, ℕ, suc, ◌≤◌, max, Bool, true, false, if◌then◌else◌, List, [], ◌∷◌, ◌++◌, Option, Some, None, refl, le_trans, le_refl, arith}
 use Rattle.c_tree.specs.Tok.{Word}
 use Rattle.c_tree.specs.Tree as u
-use Rattle.c_tree.specs.Tree.{BinaryOp, AssignOp, PrefixOp, Step, Argument, Entry, Expr, Exprs, MaybeExpr, Specs, MaybeFields, Fields, Declarators, MaybeEnumerators, Enumerators, MaybeDeclarator, Declarator, Params, Init, Inits, MaybeInit, Item, Declaration, First, Stmt, BlockItems, External}
+use Rattle.c_tree.specs.Tree.{PrefixOp, Argument, Entry, MaybeExpr, Specs, MaybeDeclarator, Declarator, Init, MaybeInit, Item, Declaration}
 use Rattle.c_tree.specs.Wf.{Env, is_type, is_qualifier, declared_name, with_name}
 use Rattle.c_tree.specs.Depth.{greatest, entry_depth, attribute_depth, maybe_depth, specs_depth, fields_depth, declarators_depth, enumerators_depth, maybe_declarator_depth, declarator_depth, params_depth, init_depth, inits_depth, maybe_init_depth, item_depth, declaration_depth, block_depth, external_depth, unit_depth}
 use Rattle.c_reader.specs.Symbol as t
-use Rattle.c_reader.specs.Symbol.{Keyword, Tagged, Head, Negation, Member, Operator, Symbol, keyword_word, tagged_word, head_word, operator_mark, member_mark, negation_mark, tok, tok_symbol}
+use Rattle.c_reader.specs.Symbol.{Tagged, Symbol, keyword_word}
 use Rattle.c_reader.specs.Parts as p
-use Rattle.c_reader.specs.Parts.{Spec, Field, Enumerator, Param, BlockItem, exprs_of, with_spec, specs_of, fields_of, declarators_of, enumerators_of, params_of, inits_of, with_item, items_of, no_specs, is_typedef, add_keyword, add_type, add_attribute}
+use Rattle.c_reader.specs.Parts.{Spec, with_spec, specs_of, fields_of, declarators_of, enumerators_of, params_of, inits_of, items_of, no_specs, add_type}
 use Rattle.c_reader.specs.Inside as i
-use Rattle.c_reader.specs.Inside.{InStmt, InBody, InDeclaration, InInit, Condition, Part, Operand, Callee, Bracket, TypePlace, InExpr, InDeclarator, InSpecs, InFields, InEnum, InParams, InAttribute, AttributeMode, SpecsMode, DeclaratorMode, ExprMode, Unended, StmtMode, Mode, InItems, ItemRead, State, in_block, in_then, in_else, in_while, in_do, in_for, of_definition, of_stmt, of_external, of_block, of_for, of_item, in_braces, of_if, of_while, of_do, plain, returned, condition, for_first, for_condition, for_step, of_prefix, of_sizeof, of_cast, of_binary, of_assign, of_comma, of_cond, of_function, of_builtin, of_paren, of_index, of_args, of_middle, cast_type, sizeof_type, in_operand, in_bracket, in_stmt, in_init, in_value, in_array, in_pointer, in_group, in_item, in_field, in_param, in_type, of_declaration, of_field, of_param, of_type, in_fields, in_enum, in_params, of_specs, of_read, attribute_word, attribute_opened, entries_opened, want_entry, after_entry_name, arguments_opened, want_argument, after_argument, after_entry, attribute_closing, in_specs, after_tagged, after_tag, want_field, want_enumerator, after_enumerator, want_param, want_declarator, after_star, declarator_opened, array_opened, params_opened, want_expr, after_expr, after_text, opened, after_sizeof, sizeof_opened, args_opened, after_builtin, want_member, broken, continued, done_while, want_stmt, want_paren, after_for, for_opened, want_condition, want_step, want_semi, after_return, want_external, in_attribute, specs, declarator, after_attributes, want_init, after_init, expr, stmt}
-use Rattle.c_reader.specs.Begin.{is_empty, begins_specs, open_spec, binary_prefix, step_prefix, negation_prefix, operator_prefix, want_operand, want}
+use Rattle.c_reader.specs.Inside.{InDeclaration, InInit, TypePlace, InExpr, InDeclarator, InSpecs, InFields, InEnum, InParams, InAttribute, AttributeMode, SpecsMode, DeclaratorMode, InItems, ItemRead, State, in_block, of_definition, of_external, of_block, of_for, of_item, in_braces, cast_type, sizeof_type, in_init, in_value, in_array, in_pointer, in_group, in_item, in_field, in_param, in_type, of_declaration, of_field, of_param, of_type, in_fields, in_enum, in_params, of_specs, of_read, attribute_word, attribute_opened, entries_opened, want_entry, after_entry_name, arguments_opened, want_argument, after_argument, after_entry, attribute_closing, in_specs, after_tagged, after_tag, want_field, want_enumerator, after_enumerator, want_param, want_declarator, after_star, declarator_opened, array_opened, params_opened, want_expr, after_expr, want_stmt, specs, declarator, want_init, after_init, expr, stmt}
+use Rattle.c_reader.specs.Begin.{is_empty, begins_specs, open_spec, operator_prefix, want_operand, want}
 use Rattle.c_reader.specs.Declarations.{is_equals, declaration_done, items_done, add_item, item_end, item_next, is_function, open_body, close_item, braces_next, init_next, close_braces, init_begin}
 use Rattle.c_reader.specs.Declarators.{may_be_named, may_be_nameless, is_star, add_field, field_next, add_param, param_next, type_next, close_group, end_declarator, no_items_next, nameless, declarator_begin, star_next, open_params, opened_next, array_next, params_next, declarator_next}
 use Rattle.c_reader.specs.Specs.{behind, specs_next, tagged_opened, tagged_next, tag_spec, tag_next, close_fields, field_begin, add_enumerator, close_enum, enumerator_begin, enumerator_end, enumerator_next, attribute_done, add_entry, want_lparen, entry_begin, entries_begin, entry_end, entry_next, argument_begin, arguments_begin, text_more, argument_next, close_attribute, attribute_next}

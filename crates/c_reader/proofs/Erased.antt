@@ -2,7 +2,7 @@
 use Rattle.std.proofs.Common.{◌≡◌, Bool, true, false, if◌then◌else◌, List, [], ◌∷◌, ◌++◌, map, Option, Some, None, refl, ◌∙◌, ap}
 use Rattle.c_tree.specs.Tree as b
 use Rattle.c_tree.specs.Marked as u
-use Rattle.c_tree.specs.Marked.{Expr, TypeName, type_name, Declarator, Init}
+use Rattle.c_tree.specs.Marked.{Expr, type_name, Declarator, Init}
 use Rattle.c_tree.specs.Bare.{bare_argument, bare_entry, bare_attribute, bare, bare_exprs, bare_maybe, bare_specs, bare_body, bare_fields, bare_declarators, bare_list, bare_enumerators, bare_maybe_declarator, bare_declarator, bare_params, bare_init, bare_inits, bare_item, bare_declaration, bare_first, bare_stmt, bare_block, bare_unit}
 use Rattle.c_reader.specs.Parts as p
 use Rattle.c_reader.specs.Inside as i

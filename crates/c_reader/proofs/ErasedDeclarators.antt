@@ -4,7 +4,7 @@ use Rattle.tok_base.specs.declared.token.Span.{Span}
 use Rattle.c_tree.specs.Tree as b
 use Rattle.c_tree.specs.Tok.{Word}
 use Rattle.c_tree.specs.Marked as u
-use Rattle.c_tree.specs.Marked.{TypeName, type_name, Specs, Declarator, MaybeDeclarator}
+use Rattle.c_tree.specs.Marked.{type_name, Specs, Declarator, MaybeDeclarator}
 use Rattle.c_tree.specs.Bare.{bare_specs, bare_declarator, bare_maybe_declarator, bare_item}
 use Rattle.c_tree.specs.Wf.{Env, is_qualifier}
 use Rattle.c_reader.specs.Symbol as t

@@ -16,7 +16,7 @@ use Rattle.c_reader.specs.Declarations.{is_equals}
 use Rattle.c_reader.specs.Declarators as md
 use Rattle.c_reader.specs.Specs as m
 use Rattle.c_reader.specs.MarkedParts as k
-use Rattle.c_reader.specs.MarkedParts.{Open, mark, with_part, whole, SpecsRead, ArgumentRead, number_read, text_read, argument_of, add_type, fields_of, enumerators_of}
+use Rattle.c_reader.specs.MarkedParts.{Open, mark, whole, SpecsRead, ArgumentRead, number_read, text_read, argument_of, add_type, fields_of, enumerators_of}
 use Rattle.c_reader.specs.MarkedInside.{InSpecs, InFields, InEnum, InAttribute, of_declaration, of_field, of_param, of_type, in_fields, in_enum, of_specs, of_read, AttributeMode, attribute_word, attribute_opened, entries_opened, want_entry, after_entry_name, arguments_opened, want_argument, after_argument, after_entry, attribute_closing}
 use Rattle.c_reader.specs.MarkedSpecs as r
 use Rattle.c_reader.proofs.Erased.{erase_spec, erase_field, erase_enumerator, erase_argument, erase_specs_read, erase_items, erase_declaration, erase_declarator, erase_type, erase_expr, erase_specs, erase_fields, erase_enum, erase_params, erase_in_attribute, erase_attribute_mode, erased, map-last, map-empty, specs_erased, fields_erased, enumerators_erased, same_test}

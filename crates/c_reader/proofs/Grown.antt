@@ -1,15 +1,15 @@
 -- Lists that have one part more at their end: what they spell, and that they are well formed.
 use Rattle.std.proofs.Common.{◌≡◌, ◌≤◌, Bool, true, false, ◌||◌, List, [], ◌∷◌, ◌++◌, IsSome, refl, sym, ◌∙◌, ap, subst}
 use Rattle.c_tree.specs.Tok as g
-use Rattle.c_tree.specs.Tok.{Tok, Word, Punct, mark, word}
+use Rattle.c_tree.specs.Tok.{Tok, Word, mark}
 use Rattle.c_tree.specs.Tree as u
-use Rattle.c_tree.specs.Tree.{BinaryOp, AssignOp, PrefixOp, Step, Argument, Entry, Expr, Exprs, MaybeExpr, Specs, MaybeFields, Fields, Declarators, MaybeEnumerators, Enumerators, MaybeDeclarator, Declarator, Params, Init, Inits, MaybeInit, Item, Declaration, First, Stmt, BlockItems, External}
+use Rattle.c_tree.specs.Tree.{Entry, Expr, Specs, Declarator, Init, Item, BlockItems, External}
 use Rattle.std.specs.List.{AllByRecursion}
 use Rattle.c_tree.specs.Text.{IsName}
 use Rattle.c_tree.specs.Put.{put_all, put_more, put_commas, put, put_exprs, put_more_exprs, put_specs, put_fields, put_declarators, put_more_declarators, put_enumerators, put_more_enumerators, put_declarator, put_params, put_more_params, put_init, put_inits, put_more_inits, put_declaration, put_stmt, put_block}
 use Rattle.c_tree.specs.Wf.{Env, level, is_specifier, is_qualifier, is_storage, specified, has_typedef, WfAttribute, declared_name, leading_name, IsApart, Wf, WfAll, WfSome, WfMaybe, WfSpecs, WfFields, WfMoreFields, WfDeclarators, WfMoreDeclarators, WfEnumerators, WfMoreEnumerators, WfEither, WfDeclarator, WfParams, WfInit, WfInits, WfMoreInits, WfMaybeInit, after_declarator, after_items, after_declaration, WfItems, WfDeclaration, after_stmt, after_block, WfStmt, WfBlock, after_external, WfExternal, WfUnit}
 use Rattle.c_reader.specs.Parts as p
-use Rattle.c_reader.specs.Parts.{Spec, Field, Enumerator, Param, BlockItem, exprs_of, with_spec, specs_of, fields_of, declarators_of, enumerators_of, params_of, inits_of, with_item, items_of, no_specs, is_typedef, add_keyword, add_type, add_attribute}
+use Rattle.c_reader.specs.Parts.{Spec, Field, Enumerator, Param, BlockItem, exprs_of, with_spec, specs_of, fields_of, declarators_of, enumerators_of, params_of, inits_of, with_item, items_of, is_typedef, add_keyword, add_type, add_attribute}
 use Rattle.c_reader.specs.Begin.{is_empty}
 use Rattle.c_reader.proofs.Lists.{specified_true, has_typedef_keyword, or_assoc, or_false}
 use Rattle.c_reader.proofs.Before.{put_done, put_enumerator, put_param}

@@ -1,13 +1,13 @@
 -- The laws of the machine, over kinds and texts.
 use Rattle.std.proofs.Common.{◌≡◌, List, [], ◌∷◌, ◌++◌, map, Some, refl, sym, ◌∙◌, ap, subst, arith}
 use Rattle.c_tree.specs.Tok as g
-use Rattle.c_tree.specs.Tok.{Tok, Word, Punct, mark, word}
+use Rattle.c_tree.specs.Tok.{Tok}
 use Rattle.c_tree.specs.Tree.{External}
 use Rattle.std.specs.List.{AllByRecursion}
 use Rattle.c_tree.specs.Put.{toks}
 use Rattle.c_tree.specs.Depth.{unit_depth}
 use Rattle.c_reader.specs.Inside.{Mode, State, want_external, in_attribute, specs, declarator, after_attributes, want_init, after_init, expr, stmt}
-use Rattle.c_reader.specs.Machine.{specs_mode_next, declarator_mode_next, step_at, step, Read, step_tok, on_step, run, unit_at, Answer, answer_end, answer}
+use Rattle.c_reader.specs.Machine.{Read, run, unit_at, Answer}
 use Rattle.c_reader.specs.Above.{so_far}
 use Rattle.c_reader.specs.Machine as machine
 use Rattle.std.proofs.lemmas.List.Elements.{All-head, All-tail}

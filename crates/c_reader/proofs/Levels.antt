@@ -1,17 +1,17 @@
 -- Levels of expressions, and the token after one.
 use Rattle.std.proofs.Common.{◌≡◌, ℕ, suc, ◌≤◌, ◌<◌, Bool, true, false, List, [], ◌∷◌, ◌++◌, refl, sym, ◌∙◌, ap, append_assoc, append-nil, arith}
 use Rattle.c_tree.specs.Tok as g
-use Rattle.c_tree.specs.Tok.{Tok, Word, Punct, mark, word}
+use Rattle.c_tree.specs.Tok.{Tok, mark}
 use Rattle.c_tree.specs.Tree as u
-use Rattle.c_tree.specs.Tree.{BinaryOp, AssignOp, PrefixOp, Step, Argument, Entry, Expr, Exprs, MaybeExpr, Specs, MaybeFields, Fields, Declarators, MaybeEnumerators, Enumerators, MaybeDeclarator, Declarator, Params, Init, Inits, MaybeInit, Item, Declaration, First, Stmt, BlockItems, External}
+use Rattle.c_tree.specs.Tree.{BinaryOp, PrefixOp, Expr, Declarator}
 use Rattle.c_tree.specs.Put.{put_all, put_text, put}
 use Rattle.c_tree.specs.Wf.{Env, prec, level, operand_level, Wf}
 use Rattle.c_reader.specs.Symbol as t
-use Rattle.c_reader.specs.Symbol.{Keyword, Tagged, Head, Negation, Member, Operator, Symbol, keyword_word, tagged_word, head_word, operator_mark, member_mark, negation_mark, tok, tok_symbol}
+use Rattle.c_reader.specs.Symbol.{Operator, Symbol, tok}
 use Rattle.c_reader.specs.Inside.{Operand, InExpr, InDeclarator, of_prefix, of_sizeof, of_binary, of_function, of_paren, of_args, in_operand, in_bracket, in_stmt, in_init, in_value, in_array, want_expr, after_expr, after_text, opened, after_sizeof, sizeof_opened, expr}
 use Rattle.c_reader.specs.Begin.{want}
 use Rattle.c_reader.specs.Declarators.{array_next}
-use Rattle.c_reader.specs.Exprs.{operand_place, bracket_place, place, operator_tight, tight, operator_needs, needs, take_operator, take_expr, close_paren, close_index, call_of, close_args, close_middle, close_bracket, part_semi, condition_done, part_paren, close_part, close_array, close, made, reduced, take, next, after, text_next, open_cast, sizeof_paren_next, sizeof_next, args_begin, builtin_next, member_of, member_next, expr_next}
+use Rattle.c_reader.specs.Exprs.{operand_place, place, operator_tight, tight, needs, take_expr, made, reduced, next, after, text_next, sizeof_paren_next, args_begin}
 use Rattle.c_reader.specs.Machine.{run}
 use Rattle.c_reader.specs.Exprs as exprs
 use Rattle.c_reader.proofs.Go.{at, nat_le_true, nat_le_false, pick, skip, same_step, Starts, same_start}

@@ -13,7 +13,7 @@ use Rattle.c_reader.specs.Symbol.{Symbol, keyword_word}
 use Rattle.c_reader.specs.Begin.{is_empty, begins_specs}
 use Rattle.c_reader.specs.Declarators.{is_star}
 use Rattle.c_reader.specs.MarkedParts as mp
-use Rattle.c_reader.specs.MarkedParts.{Open, Had, mark, opens, takes, with_part, whole, Param, declarators_of}
+use Rattle.c_reader.specs.MarkedParts.{Open, Had, mark, with_part, whole, Param, declarators_of}
 use Rattle.c_reader.specs.MarkedInside.{InExpr, InDeclarator, InFields, InParams, InItems, TypePlace, cast_type, sizeof_type, in_array, in_pointer, in_group, in_item, in_field, in_param, in_type, of_param, in_fields, in_params}
 use Rattle.c_reader.specs.MarkedDeclarators as r
 use Rattle.c_reader.proofs.Marks.{Spot, spot, Opened, more, same_opened, with_token, no_name, joined, begun, leaf, begun_nameless, nameless_late, closed, pieces_done, all-last, done-last, commas-last, all_empty, fields-last, declarators-commas, pieces_param, params-commas, by_test, by_cases}

@@ -14,7 +14,7 @@ use Rattle.c_reader.specs.Symbol.{Symbol, Operator, Member, member_mark}
 use Rattle.c_reader.specs.Begin.{begins_specs}
 use Rattle.c_reader.specs.Exprs.{tight, needs}
 use Rattle.c_reader.specs.MarkedParts as mp
-use Rattle.c_reader.specs.MarkedParts.{Open, Had, mark, with_part, whole, exprs_of}
+use Rattle.c_reader.specs.MarkedParts.{Open, Had, mark, with_part, exprs_of}
 use Rattle.c_reader.specs.MarkedInside.{InStmt, Condition, of_if, of_while, of_do, Part, plain, returned, condition, for_first, for_condition, for_step, Operand, of_prefix, of_sizeof, of_cast, of_binary, of_assign, of_comma, of_cond, Callee, of_function, Bracket, of_paren, of_index, of_args, of_builtin, of_middle, cast_type, sizeof_type, InExpr, in_operand, in_bracket, in_stmt, in_init, in_value, in_array, InDeclarator, of_type, want_expr, after_expr, after_text, opened, after_sizeof, sizeof_opened, args_opened, after_builtin, want_member, ExprMode}
 use Rattle.c_reader.specs.MarkedBegin as rb
 use Rattle.c_reader.specs.MarkedExprs as r

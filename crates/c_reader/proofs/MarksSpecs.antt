@@ -11,7 +11,7 @@ use Rattle.c_reader.specs.Symbol.{Symbol, Tagged, tagged_word}
 use Rattle.c_reader.specs.Begin.{is_empty, begins_specs}
 use Rattle.c_reader.specs.Declarations.{is_equals}
 use Rattle.c_reader.specs.MarkedParts as k
-use Rattle.c_reader.specs.MarkedParts.{Open, mark, with_part, whole, Spec, SpecsRead, Enumerator, ArgumentRead, number_read, text_read, argument_of, add_type, specs_of, fields_of, enumerators_of}
+use Rattle.c_reader.specs.MarkedParts.{Open, mark, with_part, whole, Spec, SpecsRead, Enumerator, ArgumentRead, number_read, text_read, argument_of, add_type, fields_of, enumerators_of}
 use Rattle.c_reader.specs.MarkedInside.{InSpecs, InFields, InEnum, InAttribute, of_declaration, of_field, of_param, of_type, in_fields, in_enum, of_specs, of_read, AttributeMode, attribute_word, attribute_opened, entries_opened, want_entry, after_entry_name, arguments_opened, want_argument, after_argument, after_entry, attribute_closing}
 use Rattle.c_reader.specs.MarkedBegin as rb
 use Rattle.c_reader.specs.MarkedDeclarators as rd

@@ -3,12 +3,12 @@ use Rattle.std.proofs.Common.{◌≡◌, ℕ, ◌≤◌, Bool, true, false, List
 use Rattle.std.specs.List.{AllByRecursion}
 use Rattle.c_tree.specs.Text.{IsName, IsNumber, IsChar, IsText}
 use Rattle.c_tree.specs.Tree as u
-use Rattle.c_tree.specs.Tree.{Expr, Specs, Declarator, Entry, External, Item, Stmt, First}
+use Rattle.c_tree.specs.Tree.{Specs, Declarator, External, Item, Stmt}
 use Rattle.c_tree.specs.Wf.{Env, prec, level, is_qualifier, specified, has_typedef, IsOptName, WfTexts, WfArgument, WfAttribute, declared_name, leading_name, IsDirect, IsSpelled, IsApart, IsFunction, Wf, WfAll, WfMaybe, WfSpecs, WfMoreFields, WfDeclarators, WfMoreEnumerators, WfAbstract, WfDeclarator, WfParams, WfInit, WfMoreInits, after_declarator, after_items, WfItems, is_open, after_first, WfFirst, after_stmt, after_block, WfStmt, WfBlock, after_external, WfUnit}
 use Rattle.c_reader.specs.Symbol.{Symbol, name, number, char, text}
 use Rattle.c_reader.specs.Parts.{SpecsRead, exprs_of, specs_of, fields_of, declarators_of, enumerators_of, params_of, inits_of, items_of}
 use Rattle.c_reader.specs.Inside as i
-use Rattle.c_reader.specs.Inside.{InStmt, InBody, in_block, in_then, in_else, in_while, in_do, in_for, of_definition, of_stmt, InDeclaration, of_external, of_block, of_for, InItems, ItemRead, InInit, of_item, in_braces, Condition, of_if, of_while, of_do, Part, plain, returned, condition, for_first, for_condition, for_step, Operand, of_prefix, of_sizeof, of_cast, of_binary, of_assign, of_comma, of_cond, Callee, of_function, Bracket, of_paren, of_index, of_args, of_builtin, of_middle, TypePlace, cast_type, sizeof_type, InExpr, in_operand, in_bracket, in_stmt, in_init, in_value, in_array, InDeclarator, in_pointer, in_group, in_item, in_field, in_param, in_type, InSpecs, of_declaration, of_field, of_param, of_type, InFields, in_fields, InEnum, in_enum, InParams, in_params, InAttribute, of_specs, of_read, AttributeMode, attribute_word, attribute_opened, entries_opened, want_entry, after_entry_name, arguments_opened, want_argument, after_argument, after_entry, attribute_closing, SpecsMode, in_specs, after_tagged, after_tag, want_field, want_enumerator, after_enumerator, want_param, DeclaratorMode, want_declarator, after_star, declarator_opened, array_opened, params_opened, ExprMode, want_expr, after_expr, after_text, opened, after_sizeof, sizeof_opened, args_opened, after_builtin, want_member, Unended, broken, continued, done_while, StmtMode, want_stmt, want_paren, after_for, for_opened, want_condition, want_step, want_semi, after_return, Mode, want_external, in_attribute, specs, declarator, after_attributes, want_init, after_init, expr, stmt, State}
+use Rattle.c_reader.specs.Inside.{InStmt, InBody, in_block, in_then, in_else, in_while, in_do, in_for, of_definition, of_stmt, InDeclaration, of_external, of_block, of_for, InItems, ItemRead, InInit, of_item, in_braces, Condition, of_if, of_while, of_do, Part, plain, returned, condition, for_first, for_condition, for_step, Operand, of_prefix, of_sizeof, of_cast, of_binary, of_assign, of_comma, of_cond, Callee, of_function, Bracket, of_paren, of_index, of_args, of_builtin, of_middle, TypePlace, cast_type, sizeof_type, InExpr, in_operand, in_bracket, in_stmt, in_init, in_value, in_array, InDeclarator, in_pointer, in_group, in_item, in_field, in_param, in_type, InSpecs, of_declaration, of_field, of_param, of_type, InFields, in_fields, InEnum, in_enum, InParams, in_params, InAttribute, of_specs, of_read, AttributeMode, attribute_word, attribute_opened, entries_opened, want_entry, after_entry_name, arguments_opened, want_argument, after_argument, after_entry, attribute_closing, SpecsMode, in_specs, after_tagged, after_tag, want_field, want_enumerator, after_enumerator, want_param, DeclaratorMode, want_declarator, after_star, declarator_opened, array_opened, params_opened, ExprMode, want_expr, after_expr, after_text, opened, after_sizeof, sizeof_opened, args_opened, after_builtin, want_member, Unended, broken, continued, done_while, StmtMode, want_stmt, want_paren, after_for, for_opened, want_condition, want_step, want_semi, after_return, Mode, want_external, in_attribute, specs, declarator, after_attributes, want_init, after_init, expr, stmt}
 use Rattle.c_reader.specs.Declarators.{may_be_named, may_be_nameless}
 use Rattle.c_reader.specs.Exprs.{place}
 

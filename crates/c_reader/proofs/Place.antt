@@ -6,7 +6,7 @@ use Rattle.std.specs.List.{AllByRecursion}
 use Rattle.c_tree.specs.Put.{toks}
 use Rattle.c_tree.specs.Wf.{Env, WfUnit}
 use Rattle.c_reader.specs.Inside.{Mode, State, want_external, in_attribute, specs, declarator, after_attributes, want_init, after_init, expr, stmt}
-use Rattle.c_reader.specs.Machine.{specs_mode_next, declarator_mode_next, step_at, step, Read, step_tok, on_step, run, unit_at, Answer, answer_end, answer}
+use Rattle.c_reader.specs.Machine.{Read, on_step, run, unit_at, Answer, answer_end, answer}
 use Rattle.c_reader.specs.Machine as machine
 use Rattle.c_reader.proofs.Ok.{ModeOk}
 use Rattle.c_reader.proofs.Before.{before}

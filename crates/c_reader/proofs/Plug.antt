@@ -1,20 +1,20 @@
 -- Every state can be completed: some well-formed unit begins with the tokens that led to it.
 use Rattle.std.proofs.Common.{◌≡◌, ℕ, ◌≤◌, Bool, true, false, List, [], ◌∷◌, ◌++◌, Option, Some, None, refl, ◌∙◌, ap, subst, arith, codes}
 use Rattle.c_tree.specs.Tok as g
-use Rattle.c_tree.specs.Tok.{Tok, Word, Punct, mark, word}
+use Rattle.c_tree.specs.Tok.{Tok, Word, mark, word}
 use Rattle.c_tree.specs.Marks.{record_word}
 use Rattle.c_tree.specs.Tree as u
-use Rattle.c_tree.specs.Tree.{BinaryOp, AssignOp, PrefixOp, Step, Argument, Entry, Expr, Exprs, MaybeExpr, Specs, MaybeFields, Fields, Declarators, MaybeEnumerators, Enumerators, MaybeDeclarator, Declarator, Params, Init, Inits, MaybeInit, Item, Declaration, First, Stmt, BlockItems, External}
+use Rattle.c_tree.specs.Tree.{Argument, Entry, Expr, Exprs, Specs, MaybeDeclarator, Declarator, Init, MaybeInit, Declaration, Stmt, BlockItems, External}
 use Rattle.std.specs.List.{AllByRecursion}
 use Rattle.c_tree.specs.Text.{IsName, IsNumber}
 use Rattle.c_tree.specs.Put.{put_all, put_name, put_word, put_argument, put_entry, put_attribute, put, put_specs, put_maybe_declarator, put_declarator, put_init, put_maybe_init, put_item, put_declaration, put_stmt, put_block, put_external, toks}
 use Rattle.c_tree.specs.Wf.{Env, level, is_qualifier, specified, IsOptName, WfArgument, WfArguments, WfAttribute, declared_name, leading_name, IsSpelled, Wf, WfAll, WfMaybe, WfSpecs, WfDeclarators, WfAbstract, WfEither, WfDeclarator, WfInit, WfMaybeInit, with_name, WfDeclaration, WfStmt, WfBlock, WfUnit}
 use Rattle.c_reader.specs.Symbol as t
-use Rattle.c_reader.specs.Symbol.{Keyword, Tagged, Head, Negation, Member, Operator, Symbol, keyword_word, tagged_word, head_word, operator_mark, member_mark, negation_mark, tok, tok_symbol}
+use Rattle.c_reader.specs.Symbol.{Tagged, Member, tagged_word, member_mark}
 use Rattle.c_reader.specs.Parts as p
-use Rattle.c_reader.specs.Parts.{Spec, Field, Enumerator, Param, BlockItem, exprs_of, with_spec, specs_of, fields_of, declarators_of, enumerators_of, params_of, inits_of, with_item, items_of, no_specs, is_typedef, add_keyword, add_type, add_attribute}
+use Rattle.c_reader.specs.Parts.{Field, Enumerator, Param, exprs_of, specs_of, fields_of, declarators_of, enumerators_of, params_of, inits_of, items_of}
 use Rattle.c_reader.specs.Inside as i
-use Rattle.c_reader.specs.Inside.{InStmt, InBody, InDeclaration, InInit, Condition, Part, Operand, Callee, Bracket, TypePlace, InExpr, InDeclarator, InSpecs, InFields, InEnum, InParams, InAttribute, AttributeMode, SpecsMode, DeclaratorMode, ExprMode, Unended, StmtMode, Mode, InItems, ItemRead, State, in_block, in_then, in_else, in_while, in_do, in_for, of_definition, of_stmt, of_external, of_block, of_for, of_item, in_braces, of_if, of_while, of_do, plain, returned, condition, for_first, for_condition, for_step, of_prefix, of_sizeof, of_cast, of_binary, of_assign, of_comma, of_cond, of_function, of_builtin, of_paren, of_index, of_args, of_middle, cast_type, sizeof_type, in_operand, in_bracket, in_stmt, in_init, in_value, in_array, in_pointer, in_group, in_item, in_field, in_param, in_type, of_declaration, of_field, of_param, of_type, in_fields, in_enum, in_params, of_specs, of_read, attribute_word, attribute_opened, entries_opened, want_entry, after_entry_name, arguments_opened, want_argument, after_argument, after_entry, attribute_closing, in_specs, after_tagged, after_tag, want_field, want_enumerator, after_enumerator, want_param, want_declarator, after_star, declarator_opened, array_opened, params_opened, want_expr, after_expr, after_text, opened, after_sizeof, sizeof_opened, args_opened, after_builtin, want_member, broken, continued, done_while, want_stmt, want_paren, after_for, for_opened, want_condition, want_step, want_semi, after_return, want_external, in_attribute, specs, declarator, after_attributes, want_init, after_init, expr, stmt}
+use Rattle.c_reader.specs.Inside.{InStmt, InBody, InDeclaration, InInit, Condition, Part, Callee, Bracket, TypePlace, InExpr, InDeclarator, InSpecs, InFields, InEnum, InParams, InAttribute, AttributeMode, SpecsMode, DeclaratorMode, ExprMode, Unended, StmtMode, Mode, InItems, ItemRead, in_block, in_then, in_else, in_while, in_do, in_for, of_definition, of_stmt, of_external, of_block, of_for, of_item, in_braces, of_if, of_while, of_do, plain, returned, condition, for_first, for_condition, for_step, of_function, of_builtin, of_paren, of_index, of_args, of_middle, cast_type, sizeof_type, in_operand, in_bracket, in_stmt, in_init, in_value, in_array, in_pointer, in_group, in_item, in_field, in_param, in_type, of_declaration, of_field, of_param, of_type, in_fields, in_enum, in_params, of_specs, of_read, attribute_word, attribute_opened, entries_opened, want_entry, after_entry_name, arguments_opened, want_argument, after_argument, after_entry, attribute_closing, in_specs, after_tagged, after_tag, want_field, want_enumerator, after_enumerator, want_param, want_declarator, after_star, declarator_opened, array_opened, params_opened, want_expr, after_expr, after_text, opened, after_sizeof, sizeof_opened, args_opened, after_builtin, want_member, broken, continued, done_while, want_stmt, want_paren, after_for, for_opened, want_condition, want_step, want_semi, after_return, want_external, in_attribute, specs, declarator, after_attributes, want_init, after_init, expr, stmt}
 use Rattle.c_reader.specs.Declarations.{add_item}
 use Rattle.c_reader.specs.Declarators.{may_be_named, may_be_nameless}
 use Rattle.c_reader.specs.Specs.{tag_spec}

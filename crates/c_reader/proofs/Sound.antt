@@ -1,14 +1,14 @@
 -- Every step keeps what holds of a state, and adds its token; and so do the steps of a list of tokens.
 use Rattle.std.proofs.Common.{◌≡◌, List, [], ◌∷◌, ◌++◌, Option, Some, None, refl, ◌∙◌, ap}
 use Rattle.c_tree.specs.Tok as g
-use Rattle.c_tree.specs.Tok.{Tok, Word, Punct, mark, word}
+use Rattle.c_tree.specs.Tok.{Tok, Word, Punct}
 use Rattle.std.specs.List.{AllByRecursion}
 use Rattle.c_tree.specs.Text.{IsName, IsNumber, IsChar, IsText}
 use Rattle.c_tree.specs.Wf.{Env}
 use Rattle.c_reader.specs.Symbol as t
-use Rattle.c_reader.specs.Symbol.{Keyword, Tagged, Head, Negation, Member, Operator, Symbol, keyword_word, tagged_word, head_word, operator_mark, member_mark, negation_mark, tok, tok_symbol}
+use Rattle.c_reader.specs.Symbol.{Symbol, tok, tok_symbol}
 use Rattle.c_reader.specs.Inside as i
-use Rattle.c_reader.specs.Inside.{InStmt, InBody, InDeclaration, InInit, Condition, Part, Operand, Callee, Bracket, TypePlace, InExpr, InDeclarator, InSpecs, InFields, InEnum, InParams, InAttribute, AttributeMode, SpecsMode, DeclaratorMode, ExprMode, Unended, StmtMode, Mode, InItems, ItemRead, State, in_block, in_then, in_else, in_while, in_do, in_for, of_definition, of_stmt, of_external, of_block, of_for, of_item, in_braces, of_if, of_while, of_do, plain, returned, condition, for_first, for_condition, for_step, of_prefix, of_sizeof, of_cast, of_binary, of_assign, of_comma, of_cond, of_function, of_builtin, of_paren, of_index, of_args, of_middle, cast_type, sizeof_type, in_operand, in_bracket, in_stmt, in_init, in_value, in_array, in_pointer, in_group, in_item, in_field, in_param, in_type, of_declaration, of_field, of_param, of_type, in_fields, in_enum, in_params, of_specs, of_read, attribute_word, attribute_opened, entries_opened, want_entry, after_entry_name, arguments_opened, want_argument, after_argument, after_entry, attribute_closing, in_specs, after_tagged, after_tag, want_field, want_enumerator, after_enumerator, want_param, want_declarator, after_star, declarator_opened, array_opened, params_opened, want_expr, after_expr, after_text, opened, after_sizeof, sizeof_opened, args_opened, after_builtin, want_member, broken, continued, done_while, want_stmt, want_paren, after_for, for_opened, want_condition, want_step, want_semi, after_return, want_external, in_attribute, specs, declarator, after_attributes, want_init, after_init, expr, stmt}
+use Rattle.c_reader.specs.Inside.{SpecsMode, DeclaratorMode, Mode, State, of_external, of_declaration, of_param, in_specs, after_tagged, after_tag, want_field, want_enumerator, after_enumerator, want_param, want_declarator, after_star, declarator_opened, array_opened, params_opened, want_external, in_attribute, specs, declarator, after_attributes, want_init, after_init, expr, stmt}
 use Rattle.c_reader.specs.Machine.{specs_mode_next, declarator_mode_next, step_at, step, Read, step_tok, on_step, run}
 use Rattle.c_reader.proofs.Before.{before_specs_mode, before_declarator_mode, before}
 use Rattle.c_reader.proofs.Ok.{Valid, SpecsModeOk, DeclaratorModeOk, ModeOk}

@@ -1,18 +1,18 @@
 -- The steps of declarators, specs, records, enums and attributes keep what holds, and add their token.
 use Rattle.std.proofs.Common.{◌≡◌, ℕ, ◌≤◌, Bool, true, false, if◌then◌else◌, List, [], ◌∷◌, ◌++◌, Option, Some, None, IsSome, IsNone, refl, sym, ◌∙◌, ap}
 use Rattle.c_tree.specs.Tok as g
-use Rattle.c_tree.specs.Tok.{Tok, Word, Punct, mark, word}
+use Rattle.c_tree.specs.Tok.{Tok, Word, mark, word}
 use Rattle.c_tree.specs.Marks.{record_word}
 use Rattle.c_tree.specs.Tree as u
-use Rattle.c_tree.specs.Tree.{BinaryOp, AssignOp, PrefixOp, Step, Argument, Entry, Expr, Exprs, MaybeExpr, Specs, MaybeFields, Fields, Declarators, MaybeEnumerators, Enumerators, MaybeDeclarator, Declarator, Params, Init, Inits, MaybeInit, Item, Declaration, First, Stmt, BlockItems, External}
+use Rattle.c_tree.specs.Tree.{Argument, Entry, MaybeExpr, Specs, Declarators, MaybeDeclarator, Declarator, Item}
 use Rattle.std.specs.List.{AllByRecursion}
 use Rattle.c_tree.specs.Text.{IsName, IsText}
 use Rattle.c_tree.specs.Put.{put_all, put_commas, put_name, put_comma_if, put_text, put_word, put_argument, put_entry, put_attribute, put_specs, put_declarators, put_value, put_maybe_declarator, put_declarator}
 use Rattle.c_tree.specs.Wf.{Env, is_type, is_qualifier, specified, IsOptName, WfArgument, WfArguments, WfAttribute, declared_name, leading_name, IsSpelled, IsApart, WfMaybe, WfSpecs, WfDeclarators, WfAbstract, WfEither, WfDeclarator}
 use Rattle.c_reader.specs.Symbol as t
-use Rattle.c_reader.specs.Symbol.{Keyword, Tagged, Head, Negation, Member, Operator, Symbol, keyword_word, tagged_word, head_word, operator_mark, member_mark, negation_mark, tok, tok_symbol}
+use Rattle.c_reader.specs.Symbol.{Tagged, Symbol, keyword_word, tagged_word}
 use Rattle.c_reader.specs.Parts as p
-use Rattle.c_reader.specs.Parts.{Spec, Field, Enumerator, Param, BlockItem, exprs_of, with_spec, specs_of, fields_of, declarators_of, enumerators_of, params_of, inits_of, with_item, items_of, no_specs, is_typedef, add_keyword, add_type, add_attribute}
+use Rattle.c_reader.specs.Parts.{Enumerator, specs_of, fields_of, declarators_of, enumerators_of, no_specs, add_type}
 use Rattle.c_reader.specs.Inside.{InDeclaration, TypePlace, InExpr, InDeclarator, InSpecs, InFields, InEnum, InParams, InAttribute, AttributeMode, InItems, cast_type, sizeof_type, in_array, in_pointer, in_group, in_item, in_field, in_param, in_type, of_declaration, of_field, of_param, of_type, in_fields, in_enum, in_params, of_specs, of_read, attribute_word, attribute_opened, entries_opened, want_entry, after_entry_name, arguments_opened, want_argument, after_argument, after_entry, attribute_closing, in_specs, specs}
 use Rattle.c_reader.specs.Begin.{is_empty, begins_specs}
 use Rattle.c_reader.specs.Declarations.{is_equals, items_done}

@@ -1,23 +1,23 @@
 -- What a well-formed declaration, statement or unit spells is read as it.
 use Rattle.std.proofs.Common.{◌≡◌, ℕ, ◌≤◌, inl, inr, Bool, true, false, ◌||◌, List, [], ◌∷◌, ◌++◌, IsSome, refl, sym, ◌∙◌, ap, append_assoc, append-nil, arith}
 use Rattle.c_tree.specs.Tok as g
-use Rattle.c_tree.specs.Tok.{Tok, Word, Punct, mark, word}
+use Rattle.c_tree.specs.Tok.{Tok, mark, word}
 use Rattle.c_tree.specs.Tree as u
-use Rattle.c_tree.specs.Tree.{BinaryOp, AssignOp, PrefixOp, Step, Argument, Entry, Expr, Exprs, MaybeExpr, Specs, MaybeFields, Fields, Declarators, MaybeEnumerators, Enumerators, MaybeDeclarator, Declarator, Params, Init, Inits, MaybeInit, Item, Declaration, First, Stmt, BlockItems, External}
+use Rattle.c_tree.specs.Tree.{Entry, Expr, MaybeExpr, Specs, Declarator, Init, Inits, MaybeInit, Item, Declaration, First, Stmt, BlockItems, External}
 use Rattle.std.specs.List.{AllByRecursion}
 use Rattle.c_tree.specs.Put.{put_all, put_more, put_commas, put_comma_if, put_attribute, put, put_maybe, put_specs, put_declarator, put_init, put_inits, put_more_inits, put_maybe_init, put_item, put_declaration, put_first, put_stmt, put_block, put_external, put_unit, toks}
 use Rattle.c_tree.specs.Wf.{Env, specified, has_typedef, WfAttribute, declared_name, IsPlain, IsFunction, Wf, WfMaybe, WfSpecs, WfDeclarator, WfInit, WfInits, WfMoreInits, WfMaybeInit, with_name, after_declarator, after_items, after_declaration, WfItems, WfDeclaration, is_open, after_first, WfFirst, after_stmt, after_block, WfStmt, WfBlock, after_external, WfExternal, WfUnit}
 use Rattle.c_reader.specs.Symbol as t
-use Rattle.c_reader.specs.Symbol.{Keyword, Tagged, Head, Negation, Member, Operator, Symbol, keyword_word, tagged_word, head_word, operator_mark, member_mark, negation_mark, tok, tok_symbol}
+use Rattle.c_reader.specs.Symbol.{Symbol, tok}
 use Rattle.c_reader.specs.Parts as p
-use Rattle.c_reader.specs.Parts.{Spec, Field, Enumerator, Param, BlockItem, exprs_of, with_spec, specs_of, fields_of, declarators_of, enumerators_of, params_of, inits_of, with_item, items_of, no_specs, is_typedef, add_keyword, add_type, add_attribute}
+use Rattle.c_reader.specs.Parts.{BlockItem, inits_of, items_of, no_specs}
 use Rattle.c_reader.specs.Inside as i
-use Rattle.c_reader.specs.Inside.{InStmt, InBody, InDeclaration, InInit, Condition, Part, Operand, Callee, Bracket, TypePlace, InExpr, InDeclarator, InSpecs, InFields, InEnum, InParams, InAttribute, AttributeMode, SpecsMode, DeclaratorMode, ExprMode, Unended, StmtMode, Mode, InItems, ItemRead, State, in_block, in_then, in_else, in_while, in_do, in_for, of_definition, of_stmt, of_external, of_block, of_for, of_item, in_braces, of_if, of_while, of_do, plain, returned, condition, for_first, for_condition, for_step, of_prefix, of_sizeof, of_cast, of_binary, of_assign, of_comma, of_cond, of_function, of_builtin, of_paren, of_index, of_args, of_middle, cast_type, sizeof_type, in_operand, in_bracket, in_stmt, in_init, in_value, in_array, in_pointer, in_group, in_item, in_field, in_param, in_type, of_declaration, of_field, of_param, of_type, in_fields, in_enum, in_params, of_specs, of_read, attribute_word, attribute_opened, entries_opened, want_entry, after_entry_name, arguments_opened, want_argument, after_argument, after_entry, attribute_closing, in_specs, after_tagged, after_tag, want_field, want_enumerator, after_enumerator, want_param, want_declarator, after_star, declarator_opened, array_opened, params_opened, want_expr, after_expr, after_text, opened, after_sizeof, sizeof_opened, args_opened, after_builtin, want_member, broken, continued, done_while, want_stmt, want_paren, after_for, for_opened, want_condition, want_step, want_semi, after_return, want_external, in_attribute, specs, declarator, after_attributes, want_init, after_init, expr, stmt}
+use Rattle.c_reader.specs.Inside.{InStmt, InBody, InDeclaration, InInit, Part, Mode, InItems, ItemRead, State, in_block, in_then, in_else, in_while, in_do, in_for, of_definition, of_stmt, of_external, of_block, of_for, of_item, in_braces, of_if, of_while, of_do, plain, returned, condition, for_first, for_condition, for_step, in_stmt, in_init, in_item, of_declaration, of_read, in_specs, want_declarator, want_expr, after_expr, want_stmt, for_opened, want_condition, want_step, after_return, want_external, specs, declarator, after_attributes, want_init, after_init, expr, stmt}
 use Rattle.c_reader.specs.Begin.{is_empty, open_spec, want}
 use Rattle.c_reader.specs.Declarations.{declaration_done, add_item, item_end, is_plain, is_function, braces_next, init_next, init_begin}
 use Rattle.c_reader.specs.Exprs.{tight}
 use Rattle.c_reader.specs.Stmts.{block_done, stmt_begin, is_else, stmt_next, for_begin, condition_begin, step_begin, return_next}
-use Rattle.c_reader.specs.Machine.{specs_mode_next, declarator_mode_next, step_at, step, Read, step_tok, on_step, run, unit_at, Answer, answer_end, answer}
+use Rattle.c_reader.specs.Machine.{step_at, step, run, answer}
 use Rattle.c_reader.specs.Machine as machine
 use Rattle.c_reader.proofs.Go.{at, pick, skip, goes, Starts, same_start}
 use Rattle.c_reader.proofs.Lists.{list_inits, inits_list, list_items, items_list}

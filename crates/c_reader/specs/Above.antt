@@ -4,7 +4,7 @@ use Rattle.c_tree.specs.Tree.{Argument, Specs, Item}
 use Rattle.c_tree.specs.Depth.{greatest, entry_depth, attribute_depth, depth, exprs_depth, maybe_depth, specs_depth, fields_depth, declarators_depth, enumerators_depth, maybe_declarator_depth, declarator_depth, params_depth, init_depth, inits_depth, item_depth, first_depth, stmt_depth, block_depth, unit_depth}
 use Rattle.c_reader.specs.Parts.{exprs_of, specs_of, fields_of, declarators_of, enumerators_of, params_of, inits_of, items_of}
 use Rattle.c_reader.specs.Inside as i
-use Rattle.c_reader.specs.Inside.{InStmt, InBody, InDeclaration, InInit, Condition, Part, Operand, Callee, Bracket, TypePlace, InExpr, InDeclarator, InSpecs, InFields, InEnum, InParams, InAttribute, AttributeMode, SpecsMode, DeclaratorMode, ExprMode, Unended, StmtMode, Mode, InItems, ItemRead, State, in_block, in_then, in_else, in_while, in_do, in_for, of_definition, of_stmt, of_external, of_block, of_for, of_item, in_braces, of_if, of_while, of_do, plain, returned, condition, for_first, for_condition, for_step, of_prefix, of_sizeof, of_cast, of_binary, of_assign, of_comma, of_cond, of_function, of_builtin, of_paren, of_index, of_args, of_middle, cast_type, sizeof_type, in_operand, in_bracket, in_stmt, in_init, in_value, in_array, in_pointer, in_group, in_item, in_field, in_param, in_type, of_declaration, of_field, of_param, of_type, in_fields, in_enum, in_params, of_specs, of_read, attribute_word, attribute_opened, entries_opened, want_entry, after_entry_name, arguments_opened, want_argument, after_argument, after_entry, attribute_closing, in_specs, after_tagged, after_tag, want_field, want_enumerator, after_enumerator, want_param, want_declarator, after_star, declarator_opened, array_opened, params_opened, want_expr, after_expr, after_text, opened, after_sizeof, sizeof_opened, args_opened, after_builtin, want_member, broken, continued, done_while, want_stmt, want_paren, after_for, for_opened, want_condition, want_step, want_semi, after_return, want_external, in_attribute, specs, declarator, after_attributes, want_init, after_init, expr, stmt}
+use Rattle.c_reader.specs.Inside.{InStmt, InBody, InDeclaration, InInit, Condition, Part, Operand, Callee, Bracket, InExpr, InDeclarator, InSpecs, InFields, InEnum, InParams, InAttribute, AttributeMode, SpecsMode, DeclaratorMode, ExprMode, Unended, StmtMode, Mode, InItems, ItemRead, in_block, in_then, in_else, in_while, in_do, in_for, of_definition, of_stmt, of_external, of_block, of_for, of_item, in_braces, of_if, of_while, of_do, plain, returned, condition, for_first, for_condition, for_step, of_prefix, of_sizeof, of_cast, of_binary, of_assign, of_comma, of_cond, of_function, of_builtin, of_paren, of_index, of_args, of_middle, in_operand, in_bracket, in_stmt, in_init, in_value, in_array, in_pointer, in_group, in_item, in_field, in_param, in_type, of_declaration, of_field, of_param, of_type, in_fields, in_enum, in_params, of_specs, of_read, attribute_word, attribute_opened, entries_opened, want_entry, after_entry_name, arguments_opened, want_argument, after_argument, after_entry, attribute_closing, in_specs, after_tagged, after_tag, want_field, want_enumerator, after_enumerator, want_param, want_declarator, after_star, declarator_opened, array_opened, params_opened, want_expr, after_expr, after_text, opened, after_sizeof, sizeof_opened, args_opened, after_builtin, want_member, broken, continued, done_while, want_stmt, want_paren, after_for, for_opened, want_condition, want_step, want_semi, after_return, want_external, in_attribute, specs, declarator, after_attributes, want_init, after_init, expr, stmt}
 
 -- height_* k: how many nodes hold what stands in k.
 

@@ -1,7 +1,7 @@
 -- Items of declarations, and their initialisers.
 use Rattle.std.specs.Prelude.{Bool, true, false, ◌||◌, if◌then◌else◌, List, [], ◌∷◌, ◌++◌, Option, None}
 use Rattle.c_tree.specs.Tree as u
-use Rattle.c_tree.specs.Tree.{Specs, Declarator, Init, MaybeInit, Item, Declaration, AssignOp, BinaryOp}
+use Rattle.c_tree.specs.Tree.{Specs, Declarator, Init, MaybeInit, Declaration, AssignOp}
 use Rattle.c_tree.specs.Wf.{Env, declared_name, with_name}
 use Rattle.c_reader.specs.Symbol as t
 use Rattle.c_reader.specs.Symbol.{Symbol, Operator}

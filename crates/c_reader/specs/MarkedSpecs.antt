@@ -10,7 +10,7 @@ use Rattle.c_reader.specs.Symbol.{Symbol, Tagged}
 use Rattle.c_reader.specs.Begin.{is_empty, begins_specs}
 use Rattle.c_reader.specs.Declarations.{is_equals}
 use Rattle.c_reader.specs.MarkedParts as p
-use Rattle.c_reader.specs.MarkedParts.{Open, mark, opens, with_part, whole, Spec, SpecsRead, Enumerator, ArgumentRead, number_read, text_read, argument_of, specs_of, fields_of, enumerators_of, add_type, add_attribute}
+use Rattle.c_reader.specs.MarkedParts.{Open, mark, opens, with_part, whole, Spec, SpecsRead, ArgumentRead, number_read, text_read, argument_of, specs_of, fields_of, enumerators_of, add_type, add_attribute}
 use Rattle.c_reader.specs.MarkedInside.{InDeclarator, InSpecs, InFields, InEnum, InAttribute, in_value, in_item, in_field, in_param, in_type, of_declaration, of_field, of_param, of_type, in_fields, in_enum, of_specs, of_read, AttributeMode, attribute_word, attribute_opened, entries_opened, want_entry, after_entry_name, arguments_opened, want_argument, after_argument, after_entry, attribute_closing, in_specs, after_tag, want_field, want_enumerator, after_enumerator, want_expr, in_attribute, specs, after_attributes, expr, around_enum, Next, go_on}
 use Rattle.c_reader.specs.MarkedBegin.{open_spec, first_spec}
 use Rattle.c_reader.specs.MarkedDeclarators.{declarator_begin}

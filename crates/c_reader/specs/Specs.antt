@@ -6,7 +6,7 @@ use Rattle.c_tree.specs.Wf.{Env}
 use Rattle.c_reader.specs.Symbol as t
 use Rattle.c_reader.specs.Symbol.{Symbol, Tagged}
 use Rattle.c_reader.specs.Parts as p
-use Rattle.c_reader.specs.Parts.{Spec, SpecsRead, Enumerator, specs_of, fields_of, enumerators_of, add_type, add_attribute}
+use Rattle.c_reader.specs.Parts.{Spec, SpecsRead, specs_of, fields_of, enumerators_of, add_type, add_attribute}
 use Rattle.c_reader.specs.Inside.{InDeclarator, InSpecs, InFields, InEnum, InAttribute, in_value, in_item, in_field, in_param, in_type, of_declaration, of_field, of_param, of_type, in_fields, in_enum, of_specs, of_read, AttributeMode, attribute_word, attribute_opened, entries_opened, want_entry, after_entry_name, arguments_opened, want_argument, after_argument, after_entry, attribute_closing, in_specs, after_tag, want_field, want_enumerator, after_enumerator, want_expr, in_attribute, specs, after_attributes, expr, Mode, State, at}
 use Rattle.c_reader.specs.Begin.{is_empty, begins_specs, open_spec, first_spec}
 use Rattle.c_reader.specs.Declarations.{is_equals}

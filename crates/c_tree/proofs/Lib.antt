@@ -4,4 +4,5 @@ pub mod Examples
 pub mod Pieces
 pub mod Appended
 pub mod Valid
+mod Nodes
 mod Spelling

@@ -1,7 +1,7 @@
 -- The tokens among the pieces of a unit are the tokens that it spells.
 use Rattle.std.proofs.Common.{◌≡◌, ℕ, Bool, true, false, List, [], ◌∷◌, map, Option, Some, None, refl, ap, ◌∙◌}
 use Rattle.c_tree.specs.Tok as t
-use Rattle.c_tree.specs.Tok.{Tok, Word, name, word, number, char, text, mark}
+use Rattle.c_tree.specs.Tok.{Tok, Word, name, word, text, mark}
 use Rattle.c_tree.specs.Marks.{binary_mark, assign_mark, prefix_mark, step_mark, record_word}
 use Rattle.c_tree.specs.Marked as m
 use Rattle.c_tree.specs.Marked.{Expr, TypeName, Exprs, MaybeExpr, Specs, Fields, MaybeFields, Declarators, Declarator, MaybeDeclarator, Enumerators, MaybeEnumerators, Params, Init, Inits, MaybeInit, Item, Declaration, First, Stmt, BlockItems, External, Entry, Argument, Attribute}

@@ -12,6 +12,7 @@ pub mod View
 pub mod Lexeme
 pub mod Pieces
 pub mod Places
+pub mod Nodes
 pub mod Laws
 pub mod Examples
 pub mod Printed

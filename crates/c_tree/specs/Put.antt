@@ -1,6 +1,6 @@
 -- The tokens that a tree spells, and then rest. Each form stands under its line of the grammar (ISO/IEC 9899:2018, A.2).
 use Rattle.std.specs.Prelude.{ℕ, List, [], ◌∷◌, Bool, true, false, Option, Some, None}
-use Rattle.c_tree.specs.Tok.{Tok, Word, Punct, name, word, number, char, text, mark}
+use Rattle.c_tree.specs.Tok.{Tok, Word, name, word, number, char, text, mark}
 use Rattle.c_tree.specs.Tok as t
 use Rattle.c_tree.specs.Marks.{binary_mark, assign_mark, prefix_mark, step_mark, record_word}
 use Rattle.c_tree.specs.Tree as u

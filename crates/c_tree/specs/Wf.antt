@@ -7,7 +7,7 @@ use Rattle.c_tree.specs.Tok as t
 use Rattle.c_tree.specs.Tok.{Word}
 use Rattle.c_tree.specs.Text.{IsName, IsNumber, IsChar, IsText, same_text}
 use Rattle.c_tree.specs.Tree as u
-use Rattle.c_tree.specs.Tree.{BinaryOp, AssignOp, PrefixOp, Expr, Exprs, MaybeExpr, Specs, Fields, MaybeFields, Declarators, Declarator, MaybeDeclarator, Enumerators, MaybeEnumerators, Params, Init, Inits, MaybeInit, Item, Declaration, First, Stmt, BlockItems, External, Entry, Argument}
+use Rattle.c_tree.specs.Tree.{BinaryOp, PrefixOp, Expr, Exprs, MaybeExpr, Specs, Fields, MaybeFields, Declarators, Declarator, MaybeDeclarator, Enumerators, MaybeEnumerators, Params, Init, Inits, MaybeInit, Item, Declaration, First, Stmt, BlockItems, External, Entry, Argument}
 
 abbrev pub Env : Type 0
 Env = List (List ℕ)

@@ -18,13 +18,10 @@ pub use expression::{
     Attribute, AttributeArgument, Declarator, Entry, Enum, Enumerator, EnumeratorList, Expr, Field,
     Param, Record, Spec, TypeName,
 };
-pub use laws::{print_law, put_law, valid_law};
+pub use laws::{nodes_law, print_law, put_law, valid_law};
 pub use operator::{AssignOp, At, BinaryOp, Keyword, PrefixOp, Qualifier, Step};
 pub use promises::{lexeme_law, pieces_law, some_examples};
 pub use spell_unit::{spell_external, spell_tree};
 pub use statement::{
     Block, BlockItem, Declaration, Definition, External, ForFirst, Init, Item, Stmt, Unit,
 };
-
-#[cfg(test)]
-mod tests;
