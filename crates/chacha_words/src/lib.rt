@@ -29,6 +29,3 @@ impl Words for ChaChaWords {
         u64::from(low) + u64::from(high) * (1 << 32)
     }
 }
-
-#[cfg(test)]
-mod tests;

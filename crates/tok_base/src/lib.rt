@@ -28,6 +28,3 @@ pub use sqlite_items::{Boxed, Items};
 pub use status::{Status, TraceRule, UnitFault, Which};
 pub use token::{Kind, Lexeme, Span, Token};
 pub use words::{FixedWords, Words};
-
-#[cfg(test)]
-mod tests;

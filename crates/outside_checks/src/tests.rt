@@ -1,16 +1,18 @@
 //! Tables of calls on objects in memory, and each adapter over the real thing.
 
-use super::{
-    Bytes, Failed, Files, FixedWords, Gate, Items, MemFiles, MemSink, MemSource, NoGate, NoMemory,
-    ReadEnd, RealFiles, RealSink, RealSource, Reason, Reserved, Sink, Source, Span, Status,
-    TraceRule, UnitFault, Which, Words, read_whole, write_whole,
-};
+use super::takes_whole;
+use chacha_words::ChaChaWords;
 use std::alloc::Global;
 use std::fs::File;
 use std::io;
 use std::io::Write;
 use std::process::Abort;
 use std::test::Fail;
+use tok_base::{
+    Bytes, Failed, Files, FixedWords, Gate, Items, MemFiles, MemSink, MemSource, NoGate, NoMemory,
+    ReadEnd, RealFiles, RealSink, RealSource, Reason, Reserved, Sink, Source, Span, Status,
+    TraceRule, UnitFault, Which, Words, read_whole, write_whole,
+};
 
 fn sink(alloc: Global, room: u64, fail: u64) -> Result<MemSink, NoMemory> {
     let fails = Items::from_slice(alloc, &[fail])?;
@@ -31,7 +33,7 @@ fn assert_written(
 ) {
     match sink {
         Ok(mut sink) => {
-            assert_eq!(rt; write_whole(&mut sink, piece.as_bytes()).is_ok(), whole);
+            assert_eq!(rt; takes_whole(&mut sink, piece.as_bytes()), whole);
             assert_eq!(rt; sink.write(b""), Ok(0));
             assert_eq!(rt; sink.bytes(), written.as_bytes());
         }
@@ -125,6 +127,28 @@ fn sinks_and_sources_in_memory_keep_to_their_tables(rt: HostRuntime) {
     }
 }
 
+/// Writes into room for four bytes, of which the second is to fail, and what each answers.
+const WRITES: [(&str, Result<usize, Failed>); 5] = [
+    ("ab", Ok(2)),
+    ("", Ok(0)),
+    ("c", Err(Failed)),
+    ("def", Ok(2)),
+    ("g", Err(Failed)),
+];
+
+#[test]
+fn each_write_answers_what_the_sink_took(rt: HostRuntime) {
+    match sink(rt.alloc(), 4, 1) {
+        Ok(mut sink) => {
+            for (piece, answer) in &WRITES {
+                assert_eq!(rt; sink.write(piece.as_bytes()), *answer);
+            }
+            assert_eq!(rt; sink.bytes(), b"abde".as_slice());
+        }
+        Err(NoMemory) => assert!(rt; false),
+    }
+}
+
 fn two_files(alloc: Global) -> Result<MemFiles, NoMemory> {
     let mut files = Items::new(alloc);
     let name = Items::from_slice(alloc, b"a.c")?;
@@ -162,12 +186,13 @@ fn files_in_memory_keep_to_their_table(rt: HostRuntime) {
 const PLACE: Span = Span { start: 1, end: 2 };
 
 /// Each status and its number.
-const CODES: [(Status, u8); 24] = [
+const CODES: [(Status, u8); 25] = [
     (Status::Done, 0),
     (Status::Usage, 2),
     (Status::FileFault, 3),
     (Status::ReadFault, 4),
     (Status::WriteFault, 5),
+    (Status::TooLong(Which::Unit), 6),
     (Status::TooLong(Which::Input), 6),
     (Status::Lex(3), 7),
     (Status::Syntax(3), 8),
@@ -204,6 +229,7 @@ fn lists_words_and_gates_do_what_they_say(rt: HostRuntime) -> Result<(), Fail> {
     list.push(8);
     list.set(0, 9);
     assert_eq!(rt; list.as_slice(), [9, 8].as_slice());
+    assert_eq!(rt; list.len(), 2);
     assert_eq!(rt; list.get(1), Some(&8));
     list.clear();
     list.reserve(3).map_err(|_| "no memory")?;
@@ -283,4 +309,27 @@ fn real_files_and_sources_do_the_same(rt: HostRuntime) -> Result<(), Fail> {
     let mut unreadable = RealSource::new(File::create(&rt, "b.txt")?);
     assert_eq!(rt; unreadable.read(&mut first), Err(Failed));
     Ok(())
+}
+
+/// Seed, number of the word, and the word, as the ChaCha20 of OpenSSL has them.
+const WORDS: [(u64, u64, u64); 12] = [
+    (0x0, 0x0, 0x903df1a0ade0b876),
+    (0x0, 0x1, 0x28bd8653e56a5d40),
+    (0x0, 0x7, 0x8665eeb269b687c3),
+    (0x0, 0x8, 0x7a385155bee7079f),
+    (0x0, 0x1f, 0x7e1667316c1e6ae8),
+    (0x0, 0x20, 0xadc5472b7488a6e5),
+    (0x1, 0x0, 0x9311ece17c0ad3c5),
+    (0x2a, 0x3, 0x2666a8a4f7a882dc),
+    (0x100, 0x0, 0x789c00210e34f4d2),
+    (0x123456789abcdef, 0x2, 0xf8d5a067ad4088c7),
+    (0xffffffffffffffff, 0xf4243, 0xf572bea96b5dc639),
+    (0x7, 0x7ffffffff, 0xb500db0b260af9c6),
+];
+
+#[test]
+fn each_word_is_that_of_the_key_stream(rt: HostRuntime) {
+    for (seed, k, word) in &WORDS {
+        assert_eq!(rt; ChaChaWords.word(*seed, *k), *word);
+    }
 }
