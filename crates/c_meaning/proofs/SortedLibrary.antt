@@ -122,7 +122,7 @@ compared_sort span p q count f g h s =
 
 length_sort : (span : Span) (p : Value) → GoesOnWith (IsOf (scalar.Int k.ULong)) (act (string_length span p))
 length_sort span p f g h s =
-    acted_holds (IsOf (scalar.Int k.ULong)) (string_length span p s.world) f g h (numbered_is k.ULong span (if_reached (reached s.world.blocks (pointer_in p) 1 1 false) (λ site. text_length (drop site.offset site.block.cells))) pos s.world) s
+    acted_holds (IsOf (scalar.Int k.ULong)) (string_length span p s.world) f g h (numbered_is k.ULong span (text_length s.world.blocks (pointer_in p)) pos s.world) s
 
 plain_typed : AreTyped library_functions library_types
 plain_typed = (

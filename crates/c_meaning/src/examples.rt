@@ -1,7 +1,12 @@
 //! Worked examples, by computation.
 
-ghost use Rattle.c_meaning.specs.Examples.{AllocationExamples, CallExamples, EndExamples, TrapExamples};
+ghost use Rattle.c_meaning.specs.Examples.{AllocationExamples, CallExamples, EndExamples, OperandRows, TrapExamples};
 ghost use Rattle.c_meaning.specs.Formed.{CallSortExamples, NameExamples, OperandExamples, StatementExamples, ValueExamples, WorkedExamplesAreFormed};
+
+/// Operands of both sorts.
+pub fn operand_examples()
+    ensures { OperandRows }
+{}
 
 /// Runs that ask for storage.
 pub fn allocation_examples()
