@@ -17,13 +17,13 @@ use Rattle.c_meaning.specs.Programs.{span, read_of_new_block, read_of_dead_block
 abbrev tokens : Tokens
 tokens = record { site = λ k. k; mark = λ k. k; fallback = 0 }
 
-abbrev runs : Program → List ℕ → List Bool → ℕ → Option Result
+abbrev pub runs : Program → List ℕ → List Bool → ℕ → Option Result
 runs c input answers ticks = meaning c tokens input answers ticks
 
-abbrev gives : List ℕ → End → List Request → Option Result
+abbrev pub gives : List ℕ → End → List Request → Option Result
 gives output end requests = Some (record { output = output; end = end; requests = requests })
 
-abbrev ends : End → Option Result
+abbrev pub ends : End → Option Result
 ends end = gives [] end []
 
 -- operands of both sorts, and what the rules take a pointer for where an integer stands, or the other way round
