@@ -9,3 +9,4 @@ pub mod Numbered
 pub mod Stays
 pub mod ToldRuns
 pub mod Retagged
+pub mod Unplaced

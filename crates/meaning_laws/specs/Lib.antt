@@ -3,3 +3,4 @@ pub mod Told
 pub mod Numbers
 pub mod Retag
 pub mod Tagged
+pub mod Spans

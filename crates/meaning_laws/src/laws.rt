@@ -2,6 +2,7 @@
 
 ghost use Rattle.meaning_laws.specs.Exists.{RunExists};
 ghost use Rattle.meaning_laws.specs.Numbers.{AllNumbersStay};
+ghost use Rattle.meaning_laws.specs.Spans.{PlacesChangeNothing};
 ghost use Rattle.meaning_laws.specs.Tagged.{TagsChangeNothing};
 ghost use Rattle.meaning_laws.specs.Told.{ToldDecides};
 
@@ -24,4 +25,9 @@ pub fn tokens_decide()
 /// A well-formed program and the same with its sites tagged have the same run.
 pub fn tags_change_nothing()
     ensures { TagsChangeNothing }
+{}
+
+/// Programs that are equal but for places in the text have the same run but for the place of a trap.
+pub fn places_change_nothing()
+    ensures { PlacesChangeNothing }
 {}
