@@ -11,7 +11,6 @@ use Rattle.tok_base.specs.declared.reason.Reason.TheVariants as reason
 use Rattle.c_core.specs.declared.values.End.TheVariants.{Spent, Trap}
 use Rattle.c_core.specs.declared.tree.FixedObject.{FixedObject}
 use Rattle.c_core.specs.declared.tree.Place.TheVariants as place
-use Rattle.c_core.specs.Values.{kind_of}
 use Rattle.range_heap.specs.Blocks.{rounded}
 use Rattle.c_core.specs.declared.tree.LibMark.{LibMark}
 use Rattle.c_core.specs.Tree as t

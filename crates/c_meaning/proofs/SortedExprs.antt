@@ -24,7 +24,7 @@ use Rattle.c_core.specs.Values.{kind_of}
 use Rattle.c_core.specs.Blocks.{load, store}
 use Rattle.c_core.specs.Library.{library_functions, marked_types}
 use Rattle.c_core.specs.Signatures.{signature}
-use Rattle.c_core.specs.Sorts.{Sort, Gives, Void, given, an, int as int_sort, a_pointer, agree, result_sort, used_sort, either_of}
+use Rattle.c_core.specs.Sorts.{Sort, Gives, Void, given, an, int as int_sort, agree, result_sort, used_sort, either_of}
 use Rattle.c_core.specs.WellFormed.{constant_sort, sort_of, sort_of_form, sorts_of, library_call_sort}
 use Rattle.c_meaning.specs.Run.{Begins}
 use Rattle.c_meaning.specs.World.{World, M, ◌>>◌, act, judged, tick, local_block}

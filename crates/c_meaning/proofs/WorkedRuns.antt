@@ -1,15 +1,12 @@
 -- Two worked logs are logs of runs.
-use Rattle.std.proofs.Common.{◌≡◌, ◌⊎◌, ⊎_elim, inl, inr, ℕ, ◌+◌, ◌<◌, ◌≤◌, Bool, true, false, List, [], ◌∷◌, ◌++◌, refl, sym, ap, subst, arith, ◌∙◌}
+use Rattle.std.proofs.Common.{◌≡◌, ⊎_elim, inr, ℕ, Bool, true, false, List, [], ◌∷◌, ◌++◌, refl, sym, ap, subst, arith, ◌∙◌}
 use Rattle.std.specs.Prelude.{nat_eq, if◌then◌else◌}
 use Rattle.std.proofs.lemmas.Bool.Decides.{eqb_tells}
 use Rattle.range_heap.specs.declared.call.HeapCall.{HeapCall}
-use Rattle.range_heap.specs.declared.call.HeapEvent.{HeapEvent}
 use Rattle.range_heap.specs.declared.call.HeapEvent.TheVariants as event
-use Rattle.range_heap.specs.History.{Region, region, FitsAt, MayFollow, Legal, call_of}
-use Rattle.c_meaning.specs.declared.log.LogEntry.{LogEntry}
-use Rattle.c_meaning.specs.declared.log.LogEntry.TheVariants.{Grant, Refuse}
+use Rattle.range_heap.specs.History.{Region, region, MayFollow, Legal, call_of}
 use Rattle.c_meaning.specs.Run.{Alloc, Site, Token}
-use Rattle.c_meaning.specs.Log.{by_token, ranges_of}
+use Rattle.c_meaning.specs.Log.{ranges_of}
 use Rattle.c_meaning.specs.MoreExamples.{RunExamples}
 
 abbrev calls : List HeapCall

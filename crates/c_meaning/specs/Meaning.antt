@@ -21,7 +21,7 @@ use Rattle.c_meaning.specs.declared.log.Flow.{Flow}
 use Rattle.c_meaning.specs.declared.log.Flow.TheVariants.{Next, Broke, Continued, Returned}
 use Rattle.c_meaning.specs.Run.{Run, Label, Site, Plain, Token, Result as Outcome, answered}
 use Rattle.c_meaning.specs.World.{World, State, M, Acted, Gives, Stops, give, ◌>>=◌, ◌>>◌, over, stop, tick, begins, act, change, judged, take_room, give_room, make_local, make_locals, end_locals, within, local_block, request, release}
-use Rattle.c_meaning.specs.Rules.{int, truth_value, no_value, number_in, pointer_in, natural_in, exit_code, holds, convert, arith, shift, compare_int, truth, ptr_add, ptr_diff, compare_ptr, modified, size_in}
+use Rattle.c_meaning.specs.Rules.{int, truth_value, no_value, pointer_in, natural_in, exit_code, holds, convert, arith, shift, compare_int, truth, ptr_add, ptr_diff, compare_ptr, modified, size_in}
 use Rattle.c_core.specs.Library.{LibraryFunction, Malloc, Calloc, Realloc, FreeIt, GetChar, PutChar, MemCpy, MemMove, MemSet, MemCmp, StrLen, ExitNow, AbortNow, library_functions, Callee, callee_of}
 use Rattle.c_meaning.specs.Storage.{load_at, store_at, copy_record, with_fixed, address, get_char, put_byte, byte_in, copy_bytes, set_bytes, compare_bytes, string_length, allocated, zeroed, resized}
 

@@ -1,11 +1,11 @@
 -- What more small programs mean, by computation, and two whole runs with their logs.
-use Rattle.std.specs.Prelude.{◌≡◌, ℕ, true, false, [], ◌∷◌, pos, negsuc, Option, Some}
+use Rattle.std.specs.Prelude.{◌≡◌, true, false, [], ◌∷◌, pos, negsuc}
 use Rattle.tok_base.specs.declared.reason.Reason.TheVariants as reason
 use Rattle.c_core.specs.declared.values.End.TheVariants.{Exit, Trap, StackFull}
 use Rattle.c_core.specs.Tree.{At, Func}
 use Rattle.c_core.specs.WellFormed.{well_formed}
 use Rattle.c_meaning.specs.declared.log.LogEntry.TheVariants.{Grant, Refuse}
-use Rattle.c_meaning.specs.Run.{Alloc, Free, Site, Token}
+use Rattle.c_meaning.specs.Run.{Alloc, Free, Site}
 use Rattle.c_meaning.specs.Meaning.{Tokens}
 use Rattle.c_meaning.specs.Log.{RunOf}
 use Rattle.c_meaning.specs.Examples.{runs, gives, ends}

@@ -3,12 +3,11 @@ use Rattle.std.specs.Prelude.{ℕ, true, false, List, [], ◌∷◌, Some, None,
 use Rattle.num_ops.specs.declared.kinds.IntKind.TheVariants as k
 use Rattle.c_core.specs.declared.values.Cell.TheVariants.{Byte}
 use Rattle.c_core.specs.declared.values.Scalar.TheVariants as scalar
-use Rattle.c_core.specs.declared.tree.LibMark.{LibMark}
 use Rattle.c_core.specs.declared.tree.LibMark.TheVariants as mark
 use Rattle.c_core.specs.declared.tree.ModifyOp.TheVariants as modify
 use Rattle.c_core.specs.declared.tree.FixedObject.{FixedObject}
-use Rattle.c_core.specs.Tree.{Expr, At, Text, Func, Load, CopyRecord, Convert, PtrAdd, Modify, Call, Exprs, no_exprs, NoExpr, Stmt, Block, Do, Return, no_stmts, one_stmt, Function, Program}
-use Rattle.c_meaning.specs.Programs.{span, local, value_of, number, size, null, library, one, two, three, char_at, set_char, is_zero, init, set, return, main_of, program, malloc, text_a}
+use Rattle.c_core.specs.Tree.{Expr, At, Text, Load, CopyRecord, Convert, PtrAdd, Modify, Call, no_exprs, Block, Do, no_stmts, one_stmt, Program}
+use Rattle.c_meaning.specs.Programs.{span, local, value_of, number, size, library, one, two, three, char_at, set_char, is_zero, init, set, return, main_of, program, malloc, text_a}
 
 -- the sixth byte of what a local points at
 abbrev pub sixth : Expr

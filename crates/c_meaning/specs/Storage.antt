@@ -1,5 +1,5 @@
 -- Accesses of a run, each with the span of what traps, and the library functions on storage and streams.
-use Rattle.std.specs.Prelude.{ℕ, zero, suc, ◌+◌, Bool, true, false, ◌&&◌, ◌==◌, if◌then◌else◌, nat_lt, List, [], ◌∷◌, ◌++◌, drop, length, replicate, ℤ, pos, negsuc, Option, Some, None, Result, Ok, Err, slice_get, slice_set, min}
+use Rattle.std.specs.Prelude.{ℕ, zero, suc, ◌+◌, Bool, true, false, ◌&&◌, ◌==◌, if◌then◌else◌, nat_lt, List, [], ◌∷◌, ◌++◌, length, replicate, ℤ, pos, negsuc, Option, Some, None, Result, Ok, Err, slice_get, slice_set, min}
 use Rattle.std.specs.Int.{int_rem_euclid}
 use Rattle.std.specs.Prelude.{unsigned_abs}
 use Rattle.tok_base.specs.declared.token.Span.{Span}
@@ -9,7 +9,7 @@ use Rattle.c_core.specs.declared.values.Pointer.TheVariants.{Object}
 use Rattle.c_core.specs.declared.values.Value.{Value}
 use Rattle.c_core.specs.declared.values.Value.TheVariants as value
 use Rattle.c_core.specs.declared.values.Cell.{Cell}
-use Rattle.c_core.specs.declared.values.Cell.TheVariants.{Undefined, Byte, Part}
+use Rattle.c_core.specs.declared.values.Cell.TheVariants.{Byte}
 use Rattle.c_core.specs.declared.values.Scalar.{Scalar}
 use Rattle.c_core.specs.declared.values.Scalar.TheVariants as scalar
 use Rattle.c_core.specs.declared.values.BlockKind.{BlockKind}
@@ -23,7 +23,7 @@ use Rattle.c_core.specs.declared.tree.Place.{Place}
 use Rattle.c_core.specs.declared.tree.Place.TheVariants as place
 use Rattle.c_core.specs.declared.tree.FixedObject.{FixedObject}
 use Rattle.c_core.specs.Values.{same_pointer}
-use Rattle.c_core.specs.Blocks.{Block, Blocks, Site, reached, if_reached, moved, load, store, copy, fill, reason_of}
+use Rattle.c_core.specs.Blocks.{Block, Blocks, Site, reached, moved, load, store, copy, fill, reason_of}
 use Rattle.c_meaning.specs.World.{World, Acted, Gives, Stops, local_block, judged, is_heap}
 use Rattle.c_meaning.specs.Rules.{int, if_ok, natural_in, number_in, pointer_in, size_in, as_kind}
 

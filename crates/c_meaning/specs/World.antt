@@ -6,7 +6,7 @@ use Rattle.c_core.specs.declared.values.BlockKind.TheVariants as kind
 use Rattle.tok_base.specs.declared.reason.Reason.{Reason}
 use Rattle.c_core.specs.declared.values.End.{End}
 use Rattle.c_core.specs.declared.values.End.TheVariants.{Trap, Spent, StackFull}
-use Rattle.c_core.specs.Blocks.{Block, Blocks, placed, killed}
+use Rattle.c_core.specs.Blocks.{Blocks, placed, killed}
 use Rattle.range_heap.specs.Blocks.{rounded}
 use Rattle.c_meaning.specs.Run.{Run, Ended, Asks, Frees, Begins, Label}
 

@@ -1,9 +1,7 @@
 -- Each live allocated block was granted at a place that is live in the log, and no two at the same place.
-use Rattle.std.proofs.Common.{◌≡◌, ◌⊎◌, ⊎_elim, ℕ, zero, suc, ◌+◌, ◌<◌, ◌≤◌, Bool, true, false, cond, List, [], ◌∷◌, ◌++◌, length, Option, Some, None, refl, sym, ap, subst, ◌∙◌, arith, length-append, append-nil}
+use Rattle.std.proofs.Common.{◌≡◌, ⊎_elim, ℕ, zero, suc, ◌+◌, ◌<◌, Bool, true, false, cond, List, [], ◌∷◌, ◌++◌, length, Option, Some, None, refl, sym, ap, subst, ◌∙◌, arith, append-nil}
 use Rattle.std.specs.Prelude.{slice_get, slice_index_or, nat_eq}
 use Rattle.std.proofs.lemmas.Bool.Decides.{eqb_tells}
-use Rattle.c_core.specs.declared.values.BlockKind.TheVariants as kind
-use Rattle.c_core.specs.Blocks.{Block, Blocks, placed, killed}
 use Rattle.range_heap.specs.declared.call.HeapCall.{HeapCall}
 use Rattle.range_heap.specs.declared.call.HeapEvent.{HeapEvent}
 use Rattle.range_heap.specs.declared.call.HeapEvent.TheVariants as event
@@ -12,7 +10,7 @@ use Rattle.range_heap.specs.History.{Region, FitsAt, call_of}
 use Rattle.range_heap.proofs.Histories.{live_after, live-snoc, clear_not_live}
 use Rattle.c_meaning.specs.declared.log.LogEntry.{LogEntry}
 use Rattle.c_meaning.specs.declared.log.LogEntry.TheVariants.{Grant, Refuse, Release}
-use Rattle.c_meaning.specs.World.{World, maker, heaps_before, with_block, without_block, after_answer}
+use Rattle.c_meaning.specs.World.{World, maker, heaps_before, without_block, after_answer}
 use Rattle.c_meaning.specs.Log.{by_token, WasGranted}
 use Rattle.meaning_laws.proofs.Goes.{event_if, event_of, token_in, by_token-snoc}
 use Rattle.meaning_laws.proofs.Tame.{Heap, heaps, Tame, tame_killed, not_killed, heaps_more, more_at, before_below}

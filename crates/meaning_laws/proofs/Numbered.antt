@@ -1,10 +1,8 @@
 -- In a well-formed program every number of a function is below the count of functions, and a site has as many arguments
 -- as its function takes.
-use Rattle.std.proofs.Common.{◌≡◌, ◌∙◌, ℕ, zero, suc, ◌+◌, ◌<◌, Bool, true, false, List, [], ◌∷◌, ◌++◌, map, length, Option, Some, None, refl, sym, ap, subst, arith}
-use Rattle.std.specs.Prelude.{slice_get, not, ◌&&◌, nat_lt, if◌then◌else◌, take}
+use Rattle.std.proofs.Common.{◌≡◌, ◌∙◌, ℕ, zero, suc, ◌<◌, Bool, true, false, List, [], ◌∷◌, ◌++◌, length, Option, Some, None, refl, sym, ap}
+use Rattle.std.specs.Prelude.{slice_get, not, ◌&&◌, if◌then◌else◌, take}
 use Rattle.std.proofs.lemmas.Bool.Decides.{Decides-ltb}
-use Rattle.std.proofs.lemmas.Option.{slice_get-map}
-use Rattle.tok_base.specs.declared.token.Span.{Span}
 use Rattle.num_ops.specs.declared.kinds.IntKind.{IntKind}
 use Rattle.c_core.specs.declared.values.Pointer.{Pointer}
 use Rattle.c_core.specs.declared.values.Pointer.TheVariants.{Null, Object, Function}
@@ -22,9 +20,9 @@ use Rattle.c_core.specs.declared.tree.FixedObject.{FixedObject}
 use Rattle.c_core.specs.Tree as t
 use Rattle.c_core.specs.Tree.{Expr, At, Form, Exprs, no_exprs, one_expr, MaybeExpr, NoExpr, TheExpr, Stmt, Else, NoElse, Otherwise, Stmts, no_stmts, one_stmt, Program}
 use Rattle.c_core.specs.Library.{marked_types, library_types}
-use Rattle.c_core.specs.Signatures.{Signature, signature}
-use Rattle.c_core.specs.Sorts.{Sort, Gives, Void, IllSorted, given, an, is_right, gives, is_scalar, is_pointer, is_integer, is_promoted, of_one_kind, either_of, agree, call_sort, library_sort, used_sort}
-use Rattle.c_core.specs.WellFormed.{is_size, constant_sort, modifies, library_call_sort, sort_of, sort_of_form, sorts_of, good_items, good_step, good_return, good_stmt, good_else, good_stmts, good_objects, names, has, initialises, good_pointer, good_cell, good_cells, good_object, good_fixed, reaches, good_body, good_function, good_functions, numbers}
+use Rattle.c_core.specs.Signatures.{signature}
+use Rattle.c_core.specs.Sorts.{Sort, Gives, Void, IllSorted, given, is_right, gives, is_scalar, is_pointer, is_integer, is_promoted, of_one_kind, either_of, agree, call_sort, used_sort}
+use Rattle.c_core.specs.WellFormed.{is_size, constant_sort, modifies, library_call_sort, sort_of, sort_of_form, sorts_of, good_items, good_step, good_return, good_stmt, good_else, good_stmts, good_objects, names, has, good_pointer, good_cell, good_cells, good_fixed, good_body, good_functions, numbers}
 use Rattle.meaning_laws.specs.Numbers.{PointerIn, ValueIn, CellIn}
 use Rattle.meaning_laws.proofs.Numbers.{InitialIn}
 

@@ -1,6 +1,6 @@
 -- Quiet steps leave no pointer to a function that isn't there.
-use Rattle.std.proofs.Common.{◌≡◌, ℕ, zero, suc, ◌+◌, ◌<◌, Bool, true, false, List, [], ◌∷◌, ◌++◌, map, take, drop, replicate, length, Option, Some, None, Result, Ok, Err, refl, sym, ap, subst, arith, min, pos, ℤ}
-use Rattle.std.specs.Prelude.{slice_get, slice_set, if◌then◌else◌, not, ◌&&◌, nat_lt, nat_le, ◌==◌, is_some, ◌||◌}
+use Rattle.std.proofs.Common.{◌≡◌, ℕ, zero, suc, ◌+◌, Bool, true, false, List, [], ◌∷◌, ◌++◌, map, take, drop, replicate, length, Option, Some, None, Result, Ok, Err, sym, subst, min, pos, ℤ}
+use Rattle.std.specs.Prelude.{slice_get, slice_set, if◌then◌else◌, not, ◌&&◌, nat_lt, nat_le}
 use Rattle.tok_base.specs.declared.token.Span.{Span}
 use Rattle.tok_base.specs.declared.reason.Reason.{Reason}
 use Rattle.tok_base.specs.declared.reason.Reason.TheVariants as reason
@@ -8,7 +8,6 @@ use Rattle.num_ops.specs.declared.kinds.IntKind.{IntKind}
 use Rattle.num_ops.specs.declared.kinds.IntKind.TheVariants as kinds
 use Rattle.num_ops.specs.declared.arithmetic.Op.{Op}
 use Rattle.num_ops.specs.declared.shifts.Cmp.{Cmp}
-use Rattle.num_ops.specs.declared.shifts.Cmp.TheVariants as cmp
 use Rattle.num_ops.specs.Conversions.{bits_of}
 use Rattle.c_core.specs.declared.values.Pointer.{Pointer}
 use Rattle.c_core.specs.declared.values.Pointer.TheVariants.{Null, Object, Function}
@@ -28,9 +27,9 @@ use Rattle.c_core.specs.declared.tree.ModifyOp.TheVariants as modify
 use Rattle.c_core.specs.declared.tree.Place.{Place}
 use Rattle.c_core.specs.declared.tree.Place.TheVariants as place
 use Rattle.c_core.specs.Values.{scalar_size, little_endian, cells_of, parts, pointer_cells, value_in, scalar_in, pointer_in as pointer_in_cells, same_cells, has_undefined, has_part, same_pointer, kind_of}
-use Rattle.c_core.specs.Blocks.{Block, Blocks, Site, reached, if_reached, written, moved, overlap, cells_at, replaced, load, store, copy, fill, killed, killed_in, dead}
-use Rattle.c_meaning.specs.World.{World, Acted, Gives, Stops, judged, take_room, with_local, local_block, without_local, end_local, end_locals}
-use Rattle.c_meaning.specs.Rules.{if_ok, if_valid, int, as_kind, number_in, pointer_in, natural_in, size_in, no_value, truth, ptr_add, ptr_add_to, at_offset, stepped, ptr_diff, compare_ptr, modified, arith as arith_value, shift}
+use Rattle.c_core.specs.Blocks.{Block, Blocks, Site, reached, written, moved, overlap, cells_at, load, store, copy, fill, killed, killed_in, dead}
+use Rattle.c_meaning.specs.World.{World, Acted, Gives, Stops, judged, take_room, local_block, without_local, end_locals}
+use Rattle.c_meaning.specs.Rules.{if_ok, int, as_kind, number_in, pointer_in, natural_in, size_in, truth, ptr_add, ptr_add_to, ptr_diff, compare_ptr, modified, arith as arith_value, shift}
 use Rattle.c_meaning.specs.Storage.{with_reason, with_blocks, load_at, store_at, copy_record, to_target, from_source, fixed_block, set_cells, with_fixed, next_byte, get_char, put_byte, copy_bytes, set_bytes, byte_in, zeroed, resized, compare_bytes, string_length, address, local_address, is_defined}
 use Rattle.c_meaning.specs.Meaning.{zero_block, zero_first, nowhere, store_argument}
 use Rattle.c_meaning.proofs.Sorted.{OkIs, IsOf, reasoned, if_ok_is, truth_sort, ptr_diff_sort, compare_ptr_sort, number_sort, ok_if}

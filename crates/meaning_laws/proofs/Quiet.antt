@@ -1,12 +1,11 @@
 -- Quiet steps make no allocated block.
-use Rattle.std.proofs.Common.{◌≡◌, ℕ, zero, suc, ◌+◌, Bool, true, false, List, [], ◌∷◌, ◌++◌, Option, Some, None, Result, Ok, Err, refl, sym, ap, ◌∙◌, length, min}
+use Rattle.std.proofs.Common.{◌≡◌, ℕ, ◌+◌, Bool, true, false, List, [], ◌∷◌, Option, Some, None, Result, Ok, Err, refl, ap, ◌∙◌, length}
 use Rattle.std.specs.Prelude.{slice_get, if◌then◌else◌, not, ◌&&◌, nat_lt, nat_le, ◌==◌, ◌%◌}
 use Rattle.tok_base.specs.declared.token.Span.{Span}
 use Rattle.c_core.specs.declared.values.Pointer.{Pointer}
 use Rattle.c_core.specs.declared.values.Pointer.TheVariants.{Null, Object, Function}
 use Rattle.c_core.specs.declared.values.Value.{Value}
 use Rattle.c_core.specs.declared.values.Cell.{Cell}
-use Rattle.c_core.specs.declared.values.Cell.TheVariants.{Byte}
 use Rattle.c_core.specs.declared.values.Scalar.{Scalar}
 use Rattle.c_core.specs.declared.values.BlockKind.TheVariants as kind
 use Rattle.c_core.specs.declared.values.Fault.{Fault}
@@ -14,13 +13,12 @@ use Rattle.c_core.specs.declared.values.Fault.TheVariants as fault
 use Rattle.tok_base.specs.declared.reason.Reason.{Reason}
 use Rattle.tok_base.specs.declared.reason.Reason.TheVariants as reason
 use Rattle.c_core.specs.declared.values.End.{End}
-use Rattle.c_core.specs.declared.values.End.TheVariants.{StackFull}
 use Rattle.c_core.specs.declared.tree.FixedObject.{FixedObject}
 use Rattle.c_core.specs.Values.{scalar_size, cells_of, same_pointer}
 use Rattle.c_core.specs.Blocks.{Block, Blocks, Site, reached, reached_in, if_reached, written, moved, overlap, cells_at, replaced, store, copy, fill, is_read_only}
-use Rattle.c_meaning.specs.World.{World, Acted, Gives, Stops, judged, take_room, with_local, local_block, without_local, end_local, end_locals, give_room, is_heap}
+use Rattle.c_meaning.specs.World.{World, Acted, Gives, Stops, judged, take_room, with_local, local_block, without_local, end_local, end_locals, is_heap}
 use Rattle.c_meaning.specs.Rules.{as_kind, pointer_in, natural_in, size_in}
-use Rattle.c_meaning.specs.Storage.{with_reason, with_blocks, load_at, store_at, copy_record, to_target, from_source, copied_record, fixed_kind, fixed_block, with_fixed, next_byte, get_char, put_byte, copy_bytes, set_bytes, byte_in, zeroed, resized, is_heap_block, allocated}
+use Rattle.c_meaning.specs.Storage.{with_blocks, store_at, copy_record, to_target, from_source, fixed_block, with_fixed, next_byte, get_char, put_byte, copy_bytes, set_bytes, byte_in, zeroed, is_heap_block, allocated}
 use Rattle.c_meaning.specs.Meaning.{zero_block, zero_first, nowhere, store_argument}
 use Rattle.c_core.specs.Values.{kind_of}
 use Rattle.c_meaning.proofs.Sorted.{OkIs, reasoned}

@@ -1,5 +1,5 @@
 -- The releases of a program are of live blocks.
-use Rattle.std.proofs.Common.{◌≡◌, ℕ, zero, suc, ◌≤◌, Bool, true, false, List, [], ◌∷◌, ◌++◌, Option, Some, None, refl, sym, ap, arith, pos}
+use Rattle.std.proofs.Common.{◌≡◌, ℕ, zero, suc, Bool, true, false, List, [], ◌∷◌, ◌++◌, Option, Some, None, refl, pos}
 use Rattle.std.specs.Prelude.{slice_get, slice_index_or, if◌then◌else◌, bytes_eq, length, ◌*◌}
 use Rattle.tok_base.specs.declared.token.Span.{Span}
 use Rattle.num_ops.specs.declared.kinds.IntKind.TheVariants as kind
@@ -8,10 +8,9 @@ use Rattle.c_core.specs.declared.values.Pointer.TheVariants.{Null, Object, Funct
 use Rattle.c_core.specs.declared.values.Value.{Value}
 use Rattle.c_core.specs.declared.values.Value.TheVariants as value
 use Rattle.tok_base.specs.declared.reason.Reason.TheVariants as reason
-use Rattle.c_core.specs.declared.values.End.TheVariants.{Spent, Trap}
+use Rattle.c_core.specs.declared.values.End.TheVariants.{Trap}
 use Rattle.c_core.specs.declared.tree.FixedObject.{FixedObject}
 use Rattle.c_core.specs.declared.tree.Place.TheVariants as place
-use Rattle.c_core.specs.Values.{kind_of}
 use Rattle.range_heap.specs.Blocks.{rounded}
 use Rattle.c_core.specs.declared.tree.LibMark.{LibMark}
 use Rattle.c_core.specs.Tree as t
@@ -19,9 +18,9 @@ use Rattle.c_core.specs.Tree.{Expr, At, Form, Exprs, no_exprs, one_expr, MaybeEx
 use Rattle.c_meaning.specs.declared.log.Flow.{Flow}
 use Rattle.c_meaning.specs.declared.log.Flow.TheVariants.{Next, Broke, Continued, Returned}
 use Rattle.c_meaning.specs.Run.{Run, Asks, Frees, Begins, Label}
-use Rattle.c_meaning.specs.World.{World, State, M, Acted, Gives, Stops, ◌>>=◌, ◌>>◌, give, over, stop, paid, tick, act, acted, change, make_local, make_locals, end_locals, within, request, release, judged, after_answer, without_block, take_room, give_room, with_local, local_block, maker}
+use Rattle.c_meaning.specs.World.{World, State, M, Acted, Gives, Stops, ◌>>◌, stop, paid, tick, act, acted, change, make_local, make_locals, end_locals, within, request, release, judged, after_answer, without_block, take_room, give_room, with_local, local_block, maker}
 use Rattle.c_meaning.specs.Rules.{holds, natural_in, pointer_in, no_value, arith as arith_value, shift, truth, ptr_add, ptr_diff, compare_ptr, modified, int, convert, compare_int, truth_value}
-use Rattle.c_meaning.specs.Storage.{load_at, store_at, copy_record, with_fixed, address, get_char, put_byte, byte_in, copy_bytes, set_bytes, compare_bytes, string_length, allocated, zeroed, resized}
+use Rattle.c_meaning.specs.Storage.{store_at, copy_record, with_fixed, address, get_char, put_byte, byte_in, copy_bytes, set_bytes, compare_bytes, string_length, allocated, zeroed, resized}
 use Rattle.c_core.specs.Library.{LibraryFunction, Malloc, Calloc, Realloc, FreeIt, GetChar, PutChar, MemCpy, MemMove, MemSet, MemCmp, StrLen, ExitNow, AbortNow, library_functions, Callee, callee_of}
 use Rattle.c_meaning.specs.Meaning.{allocate, block_or_null, if_granted, reallocate, free, library, library_call, Calls, if_holds, mean_expr, mean_form, mean_args, mean_each, mean_step, if_next, after_turn, turns, loop, begun, mean_else, mean_list, mean_stmt, make_parameters, store_argument, returned, run_body, run_callee, run_function, typed_call, call_value, call_at, make_fixed, call_main, label_of, function_address, zero_first, is_number, type_of, nowhere, exit, start}
 use Rattle.std.specs.Prelude.{min, Result, Ok, Err}

@@ -1,14 +1,14 @@
 -- What is told of a run decides its output, end and log.
-use Rattle.std.proofs.Common.{◌≡◌, ◌∙◌, ℕ, Bool, true, false, List, [], ◌∷◌, ◌++◌, Option, Some, None, refl, sym, ap, subst}
+use Rattle.std.proofs.Common.{◌≡◌, ℕ, Bool, true, false, List, [], ◌∷◌, ◌++◌, Option, Some, None, sym, ap, subst}
 use Rattle.std.specs.Prelude.{slice_get}
 use Rattle.c_core.specs.declared.values.End.{End}
 use Rattle.range_heap.specs.History.{Region}
 use Rattle.c_meaning.specs.declared.log.LogEntry.{LogEntry}
 use Rattle.c_meaning.specs.declared.log.LogEntry.TheVariants.{Grant, Refuse, Release}
 use Rattle.c_meaning.specs.Run.{Request, Alloc, Free, Run, Ended, Asks, Frees, Begins, Result, after, answered}
-use Rattle.c_meaning.specs.Meaning.{Tokens, token_of}
+use Rattle.c_meaning.specs.Meaning.{Tokens}
 use Rattle.c_meaning.specs.Log.{answers_of, WasGranted, MatchesFrom, IsRun}
-use Rattle.meaning_laws.specs.Told.{Told, EndedAs, AsksFor, GivesBack, told_with, told, ToldDecides}
+use Rattle.meaning_laws.specs.Told.{Told, EndedAs, AsksFor, GivesBack, told_with, ToldDecides}
 
 -- what is told goes on with this log, behind an earlier part of it, to this output and end
 abbrev pub Logs : Told → List LogEntry → List LogEntry → List ℕ → End → Type 0

@@ -1,6 +1,6 @@
 -- The core of a program whose allocation sites are tagged: each call of a site hands its token over, and each builtin is
 -- its token.
-use Rattle.std.specs.Prelude.{ℕ, pos, Bool, true, false, List, [], ◌∷◌, ◌++◌, map, Option, Some, None}
+use Rattle.std.specs.Prelude.{ℕ, pos, Bool, true, false, List, ◌++◌, map}
 use Rattle.std.specs.Option.{option_map}
 use Rattle.tok_base.specs.declared.token.Span.{Span}
 use Rattle.num_ops.specs.declared.kinds.IntKind.TheVariants as k

@@ -1,5 +1,5 @@
 -- Programs, and ends, but for their places in the text.
-use Rattle.std.specs.Prelude.{◌≡◌, ℕ, Bool, List, map, Option, Some, None}
+use Rattle.std.specs.Prelude.{◌≡◌, ℕ, List, map}
 use Rattle.std.specs.Option.{option_map}
 use Rattle.c_core.specs.declared.values.End.{End}
 use Rattle.c_core.specs.declared.values.End.TheVariants.{Exit, Trap, Spent, StackFull, OutputFull}
