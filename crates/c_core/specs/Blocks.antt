@@ -10,8 +10,8 @@ use Rattle.c_core.specs.declared.values.BlockKind.{BlockKind}
 use Rattle.c_core.specs.declared.values.BlockKind.TheVariants as kind
 use Rattle.c_core.specs.declared.values.Fault.{Fault}
 use Rattle.c_core.specs.declared.values.Fault.TheVariants.{Null, Dead, Bounds, Misaligned, ReadOnly, Indeterminate, PointerBytes, TornPointer, Overlap}
-use Rattle.c_core.specs.declared.values.Reason.{Reason}
-use Rattle.c_core.specs.declared.values.Reason.TheVariants as reason
+use Rattle.tok_base.specs.declared.reason.Reason.{Reason}
+use Rattle.tok_base.specs.declared.reason.Reason.TheVariants as reason
 use Rattle.c_core.specs.Values.{scalar_size, cells_of, value_in}
 
 -- 6.2.4: a block has a lifetime; a killed one keeps its kind and size, and has no cells

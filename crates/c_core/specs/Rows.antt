@@ -11,8 +11,9 @@ use Rattle.c_core.specs.declared.values.Scalar.TheVariants as scalar
 use Rattle.c_core.specs.declared.values.BlockKind.TheVariants as kind
 use Rattle.c_core.specs.declared.values.Fault.{Fault}
 use Rattle.c_core.specs.declared.values.Fault.TheVariants.{Null, Dead, Bounds, Misaligned, ReadOnly, Indeterminate, PointerBytes, TornPointer, Overlap}
-use Rattle.c_core.specs.Values.{scalar_size, cells_of, value_in}
-use Rattle.c_core.specs.Blocks.{Blocks, placed, killed, load, store, copy, fill}
+use Rattle.tok_base.specs.declared.reason.Reason.TheVariants as reason
+use Rattle.c_core.specs.Values.{scalar_size, kind_of, cells_of, value_in}
+use Rattle.c_core.specs.Blocks.{Blocks, placed, killed, load, store, copy, fill, reason_of}
 
 abbrev int : IntKind → ℤ → Value
 int kind z = value.Int (record { kind = kind; value = z })
@@ -43,6 +44,11 @@ with_byte = after with_pointer (store with_pointer (at 9) (scalar.Int k.Char) (i
 abbrev pub ValueRows : Type 0
 ValueRows =
     (scalar_size (scalar.Int k.Bool) ≡ 1)
+    × (scalar_size (scalar.Int k.UShort) ≡ 2)
+    × (scalar_size (scalar.Int k.Int) ≡ 4)
+    × (scalar_size scalar.Ptr ≡ 8)
+    × (kind_of (value.Ptr (Function 2)) ≡ scalar.Ptr)
+    × (reason_of TornPointer ≡ reason.TornPointer)
     × (scalar_size (scalar.Int k.ULongLong) ≡ 8)
     × (cells_of (int k.Int (negsuc 1)) ≡ Byte 254 ∷ Byte 255 ∷ Byte 255 ∷ Byte 255 ∷ [])
     × (cells_of (int k.Short (pos 513)) ≡ Byte 1 ∷ Byte 2 ∷ [])

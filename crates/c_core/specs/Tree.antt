@@ -69,7 +69,8 @@ mutual
     no_stmts : Stmts
     one_stmt : Stmt → Stmts → Stmts
 
--- a function: its name, its type's spelling, the sizes of its parameters, and its body
+-- a function: its name, its type's spelling, the sizes of what the type takes, whether or not it has a body, and the body.
+-- In a function with a body they are the sizes of its parameters, the first locals
 pub record Function : Type 0 where
   pub name : List ℕ
   pub ty : List ℕ

@@ -192,7 +192,7 @@ abbrev pub good_body : Program → t.Function → Option Stmt → Bool
 good_body c f None = good_library_type f.ty (callee_of f.name)
 good_body c f (Some body) = good_stmt c (signature f.ty).gives (numbers 0 f.params) false body
 
--- 6.9.1: the parameters have the sizes of what the type takes
+-- 6.9.1: the parameters have the sizes of what the type takes, and so they have in a function without a body
 abbrev pub good_function : Program → t.Function → Bool
 good_function c f = bytes_eq f.params (map scalar_size (signature f.ty).takes) && good_body c f f.body
 

@@ -9,13 +9,11 @@
 #![tactic(auto)]
 
 mod rows;
-#[cfg(test)]
-mod tests;
 mod tree;
 mod values;
 
 pub use rows::{each_form_is_seen, signature_examples, some_examples};
 pub use tree::{Core, Expr, FixedObject, Form, Func, LibMark, ModifyOp, Place, Stmt};
 pub use values::{
-    BlockKind, Cell, End, Fault, Pointer, Reason, Scalar, Value, kind_of, reason_of, size_of,
+    BlockKind, Cell, End, Fault, Pointer, Scalar, Value, kind_of, reason_of, size_of,
 };

@@ -119,7 +119,8 @@ pub struct Func {
     pub name: Bytes,
     /// The spelling of its type.
     pub ty: Bytes,
-    /// The sizes of the parameters, which are the first locals.
+    /// The sizes of what the type takes, of a function without a body too; with one, those of its
+    /// parameters, which are the first locals.
     pub params: Items<u32>,
     pub body: Option<Stmt>,
 }

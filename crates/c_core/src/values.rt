@@ -5,7 +5,7 @@ ghost use Rattle.c_core.specs.Values as values;
 ghost use Rattle.c_core.specs.Blocks as blocks;
 
 use num_ops::{Int, IntKind};
-use tok_base::Span;
+use tok_base::{Reason, Span};
 
 /// A pointer: null, a place in the block with a number, or the function with a number. There are no
 /// addresses.
@@ -75,44 +75,6 @@ pub enum Fault {
     TornPointer,
     /// Source and target of a copy overlap.
     Overlap,
-}
-
-/// Why a run stops at undefined behaviour.
-#[derive(Clone, Copy, Debug, PartialEq, Eq)]
-pub enum Reason {
-    Null,
-    Dead,
-    Bounds,
-    Misaligned,
-    ReadOnly,
-    Indeterminate,
-    PointerBytes,
-    TornPointer,
-    Overlap,
-    /// A signed result is out of range (6.5, paragraph 5).
-    Overflow,
-    /// A divisor is 0 (6.5.5, paragraph 5).
-    DivZero,
-    /// A shift by a count, or of a value, that has none (6.5.7).
-    Shift,
-    /// An offset outside the object, or arithmetic on no object (6.5.6, paragraph 8).
-    PointerRange,
-    /// An order of pointers into different objects (6.5.8, paragraph 5).
-    PointerOrder,
-    /// A difference of pointers that are not into one array (6.5.6, paragraph 9).
-    PointerDiff,
-    /// What is freed is no start of a live allocated block (7.22.3.3).
-    BadFree,
-    /// A function or an object that has no definition is used (6.9, paragraph 5).
-    NoBody,
-    /// What is called is no function.
-    NoFunction,
-    /// A function is called through another type (6.3.2.3, paragraph 8).
-    BadCall,
-    /// The value of a call is used, and the function returned none (6.9.1, paragraph 12).
-    NoReturn,
-    /// `abort` was called (7.22.4.1).
-    Abort,
 }
 
 /// How a run ends.

@@ -7,10 +7,10 @@ use Rattle.c_core.specs.declared.values.Pointer.{Pointer}
 use Rattle.c_core.specs.declared.values.Pointer.TheVariants.{Null, Object, Function}
 use Rattle.c_core.specs.declared.values.Value.{Value}
 use Rattle.c_core.specs.declared.values.Value.TheVariants as value
-use Rattle.c_core.specs.declared.values.Reason.TheVariants as reason
+use Rattle.tok_base.specs.declared.reason.Reason.TheVariants as reason
 use Rattle.c_core.specs.declared.values.End.TheVariants.{Spent, Trap}
 use Rattle.c_core.specs.declared.tree.FixedObject.{FixedObject}
-use Rattle.c_core.specs.Values.{kind_of}
+use Rattle.c_core.specs.declared.tree.Place.TheVariants as place
 use Rattle.range_heap.specs.Blocks.{rounded}
 use Rattle.c_core.specs.declared.tree.LibMark.{LibMark}
 use Rattle.c_core.specs.Tree as t
@@ -18,11 +18,11 @@ use Rattle.c_core.specs.Tree.{Expr, At, Form, Exprs, no_exprs, one_expr, MaybeEx
 use Rattle.c_meaning.specs.declared.log.Flow.{Flow}
 use Rattle.c_meaning.specs.declared.log.Flow.TheVariants.{Next, Broke, Continued, Returned}
 use Rattle.c_meaning.specs.Run.{Run, Asks, Frees, Begins, Label}
-use Rattle.c_meaning.specs.World.{World, State, M, Acted, Gives, Stops, ◌>>=◌, ◌>>◌, give, over, stop, paid, tick, act, acted, change, make_local, make_locals, end_locals, within, request, release, judged, after_answer, without_block, take_room, give_room, with_local, local_block}
+use Rattle.c_meaning.specs.World.{World, State, M, Acted, Gives, Stops, ◌>>=◌, ◌>>◌, give, over, stop, paid, tick, act, acted, change, make_local, make_locals, end_locals, within, request, release, judged, after_answer, without_block, take_room, give_room, with_local, local_block, maker}
 use Rattle.c_meaning.specs.Rules.{holds, natural_in, pointer_in, no_value, arith as arith_value, shift, truth, ptr_add, ptr_diff, compare_ptr, modified, int, convert, compare_int, truth_value}
 use Rattle.c_meaning.specs.Storage.{load_at, store_at, copy_record, with_fixed, address, get_char, put_byte, byte_in, copy_bytes, set_bytes, compare_bytes, string_length, allocated, zeroed, resized}
 use Rattle.c_core.specs.Library.{LibraryFunction, Malloc, Calloc, Realloc, FreeIt, GetChar, PutChar, MemCpy, MemMove, MemSet, MemCmp, StrLen, ExitNow, AbortNow, library_functions, Callee, callee_of}
-use Rattle.c_meaning.specs.Meaning.{allocate, block_or_null, if_granted, reallocate, free, library, library_call, Calls, if_holds, mean_expr, mean_form, mean_args, mean_each, mean_step, if_next, after_turn, turns, loop, begun, mean_else, mean_list, mean_stmt, make_parameters, returned, run_body, run_callee, run_function, typed_call, call_value, call_at, make_fixed, call_main, label_of, function_address, zero_first, is_number, type_of, nowhere, exit, start}
+use Rattle.c_meaning.specs.Meaning.{allocate, block_or_null, if_granted, reallocate, free, library, library_call, Calls, if_holds, mean_expr, mean_form, mean_args, mean_each, mean_step, if_next, after_turn, turns, loop, begun, mean_else, mean_list, mean_stmt, make_parameters, store_argument, returned, run_body, run_callee, run_function, typed_call, call_value, call_at, make_fixed, call_main, label_of, function_address, zero_first, is_number, type_of, nowhere, exit, start}
 use Rattle.c_meaning.specs.Laws.{DepthsAgree}
 
 -- two ways to go on that agree where at most b ticks are left
@@ -73,7 +73,7 @@ request_steady : (label : Label) (size : ℕ) → Steady (request label size)
 request_steady label size b f g h s le = ap (Asks label size 16) (λ i granted. h (if granted then Some (length s.world.blocks) else None) (record s { world = after_answer size granted s.world }) le i)
 
 release_steady : (n : ℕ) → Steady (release n)
-release_steady n b f g h s le = ap (Frees (slice_index_or s.world.makers n 0)) (h tt (record s { world = record (without_block n s.world) { asked = suc s.world.asked } }) le)
+release_steady n b f g h s le = ap (Frees (maker s.world n)) (h tt (record s { world = record (without_block n s.world) { asked = suc s.world.asked } }) le)
 
 granted_steady : (block : Option ℕ) (p : ℕ → M (Unit {0})) → ((n : ℕ) → Steady (p n)) → Steady (if_granted block p)
 granted_steady None p h b f g k s le = k (value.Ptr Null) s le
@@ -130,7 +130,7 @@ module _ (p : Program) (marks : ℕ → ℕ) (c d : Calls) (u : ℕ) (calls : (b
 
     pub form_same : (span : Span) (form : Form) (b : ℕ) → b ≤ u → SameM b (mean_form p marks c span form) (mean_form p marks d span form)
     form_same span (t.Const v) b bu f g h s le = h v s le
-    form_same span (t.Text n) b bu f g h s le = h (value.Ptr (Object n 0)) s le
+    form_same span (t.Text n) b bu f g h s le = acted_same b (judged span (address p.fixed (place.Fixed n) s.world) s.world) f g h s le
     form_same span (t.Func n) b bu f g h s le = acted_same b (judged span (function_address p.funcs n) s.world) f g h s le
     form_same span (t.Object place) b bu f g h s le = acted_same b (judged span (address p.fixed place s.world) s.world) f g h s le
     form_same span (t.Load e kind) b bu f g h s le = expr_same e b bu _ _ (λ a s le. acted_same b (load_at span (pointer_in a) kind s.world) f g h s le) s le
@@ -260,7 +260,7 @@ parameters_steady : (span : Span) (objects : List (ℕ × ℕ)) (args : List Val
 parameters_steady span [] args b f g h s le = h tt s le
 parameters_steady span (o ∷ objects) [] b f g h s le = h tt s le
 parameters_steady span (o ∷ objects) (v ∷ args) b f g h s le =
-    local_steady o.0 o.1 b _ _ (λ x s le. acted_same b (store_at span (Object (local_block s.world o.0) 0) (kind_of v) v s.world) _ _ (λ y s le. parameters_steady span objects args b f g h s le) s le) s le
+    local_steady o.0 o.1 b _ _ (λ x s le. acted_same b (store_argument span (local_block s.world o.0) v s.world) _ _ (λ y s le. parameters_steady span objects args b f g h s le) s le) s le
 
 returned_steady : (is_main used : Bool) (span : Span) (flow : Flow) → Steady (returned is_main used span flow)
 returned_steady is_main used span (Returned (Some v)) b f g h s le = h v s le

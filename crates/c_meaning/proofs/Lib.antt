@@ -5,3 +5,4 @@ pub mod SortedLibrary
 pub mod SortedExprs
 pub mod SortedCalls
 pub mod Unique
+pub mod WorkedRuns

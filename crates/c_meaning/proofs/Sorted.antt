@@ -20,8 +20,8 @@ use Rattle.c_core.specs.declared.values.Scalar.{Scalar}
 use Rattle.c_core.specs.declared.values.Scalar.TheVariants as scalar
 use Rattle.c_core.specs.declared.values.Fault.{Fault}
 use Rattle.c_core.specs.declared.values.Fault.TheVariants.{TornPointer, PointerBytes, Indeterminate}
-use Rattle.c_core.specs.declared.values.Reason.{Reason}
-use Rattle.c_core.specs.declared.values.Reason.TheVariants as reason
+use Rattle.tok_base.specs.declared.reason.Reason.{Reason}
+use Rattle.tok_base.specs.declared.reason.Reason.TheVariants as reason
 use Rattle.c_core.specs.Values.{kind_of, value_in, scalar_in, pointer_in as pointer_in_cells, has_undefined, has_part, same_cells, parts, int_from, number_of, byte_of, scalar_size}
 use Rattle.c_core.specs.Blocks.{Blocks, Site, load, reached, if_reached, cells_at}
 use Rattle.c_core.specs.Sorts.{Sort, Gives, Void, IllSorted, given, kind_number, same_kind, same_scalar, gives, is_promoted, either_of, agree}

@@ -12,7 +12,7 @@ use Rattle.c_core.specs.declared.values.Value.{Value}
 use Rattle.c_core.specs.declared.values.Value.TheVariants as value
 use Rattle.c_core.specs.declared.values.Scalar.{Scalar}
 use Rattle.c_core.specs.declared.values.Scalar.TheVariants as scalar
-use Rattle.c_core.specs.declared.values.Reason.TheVariants as reason
+use Rattle.tok_base.specs.declared.reason.Reason.TheVariants as reason
 use Rattle.c_core.specs.declared.values.End.TheVariants.{Trap}
 use Rattle.c_core.specs.Tree as t
 use Rattle.c_core.specs.Tree.{Expr, MaybeExpr, NoExpr, TheExpr, Stmt, Else, NoElse, Otherwise, Stmts, no_stmts, one_stmt, Program}

@@ -12,8 +12,8 @@ use Rattle.c_core.specs.declared.values.Value.{Value}
 use Rattle.c_core.specs.declared.values.Value.TheVariants as value
 use Rattle.c_core.specs.declared.values.Scalar.{Scalar}
 use Rattle.c_core.specs.declared.values.Scalar.TheVariants as scalar
-use Rattle.c_core.specs.declared.values.Reason.{Reason}
-use Rattle.c_core.specs.declared.values.Reason.TheVariants as reason
+use Rattle.tok_base.specs.declared.reason.Reason.{Reason}
+use Rattle.tok_base.specs.declared.reason.Reason.TheVariants as reason
 use Rattle.c_core.specs.declared.tree.Place.{Place}
 use Rattle.c_core.specs.declared.tree.Place.TheVariants as place
 use Rattle.c_core.specs.declared.tree.LibMark.{LibMark}
@@ -24,12 +24,12 @@ use Rattle.c_core.specs.Values.{kind_of}
 use Rattle.c_core.specs.Blocks.{load, store}
 use Rattle.c_core.specs.Library.{library_functions, marked_types}
 use Rattle.c_core.specs.Signatures.{signature}
-use Rattle.c_core.specs.Sorts.{Sort, Gives, Void, given, an, int as int_sort, a_pointer, agree, result_sort, used_sort, either_of}
+use Rattle.c_core.specs.Sorts.{Sort, Gives, Void, given, an, int as int_sort, agree, result_sort, used_sort, either_of}
 use Rattle.c_core.specs.WellFormed.{constant_sort, sort_of, sort_of_form, sorts_of, library_call_sort}
 use Rattle.c_meaning.specs.Run.{Begins}
-use Rattle.c_meaning.specs.World.{World, M, ◌>>◌, act, judged, tick}
+use Rattle.c_meaning.specs.World.{World, M, ◌>>◌, act, judged, tick, local_block}
 use Rattle.c_meaning.specs.Rules.{holds, int, truth_value, no_value, pointer_in, number_in, convert, compare_int, arith as arith_value, shift, truth, ptr_add, ptr_diff, compare_ptr, modified, as_kind}
-use Rattle.c_meaning.specs.Storage.{load_at, store_at, copy_record, address, is_defined, with_reason}
+use Rattle.c_meaning.specs.Storage.{load_at, store_at, copy_record, address, local_address, is_defined, with_reason}
 use Rattle.c_meaning.specs.Meaning.{Calls, if_holds, mean_expr, mean_form, mean_args, library_call, function_address, has_meaning}
 use Rattle.c_meaning.specs.Sorted.{Has, GoesOnWith}
 use Rattle.c_meaning.proofs.Sorted.{IsOf, OkIs, HasAll, ok_if, load_sort, as_kind_sort, number_sort, truth_sort, ptr_add_sort, ptr_diff_sort, compare_ptr_sort, has_given, as_left, of_left, of_right, if_value, agreed, steady, any_value, when, acted_holds, judged_is, blocks_is}
@@ -61,9 +61,13 @@ store_goes : (span : Span) (p : Pointer) (kind : Scalar) (v : Value) → GoesOnW
 store_goes span p kind v f g h s =
     acted_holds (IsOf kind) (store_at span p kind v s.world) f g h (blocks_is (IsOf kind) (as_kind kind v) s.world span (with_reason (store s.world.blocks p kind (as_kind kind v))) (as_kind_sort kind v)) s
 
+local_sort : (block : Option ℕ) → OkIs (IsOf scalar.Ptr) (local_address block)
+local_sort None = tt
+local_sort (Some n) = refl
+
 address_sort : (fixed : List FixedObject) (p : Place) (w : World) → OkIs (IsOf scalar.Ptr) (address fixed p w)
 address_sort fixed (place.Fixed n) w = ok_if (IsOf scalar.Ptr) (is_defined (slice_get fixed n)) (value.Ptr (Object n 0)) reason.NoBody refl
-address_sort fixed (place.Local x) w = refl
+address_sort fixed (place.Local x) w = local_sort (local_block w x)
 
 constant_holds : (v : Value) → Has (constant_sort v) v
 constant_holds (value.Int n) = has_given (has_value n.kind n.value) (an n.kind) (value.Int n) refl
@@ -93,7 +97,8 @@ module _ (c : Program) (marks : ℕ → ℕ) (call : Calls) (calls : CallsHold c
 
     pub form_holds : (span : Span) (form : Form) → GoesOnWith (Has (sort_of_form c locals form)) (mean_form c marks call span form)
     form_holds span (t.Const v) f g h s = h v (constant_holds v) s
-    form_holds span (t.Text n) f g h s = h (value.Ptr (Object n 0)) (has_given _ a_pointer _ refl) s
+    form_holds span (t.Text n) f g h s =
+        sorted _ scalar.Ptr _ (judged_goes scalar.Ptr span (λ w. address c.fixed (place.Fixed n) w) (λ w. address_sort c.fixed (place.Fixed n) w)) f g h s
     form_holds span (t.Func n) f g h s =
         sorted _ scalar.Ptr _ (judged_goes scalar.Ptr span (λ w. function_address c.funcs n) (λ w. ok_if (IsOf scalar.Ptr) (has_meaning (slice_get c.funcs n)) (value.Ptr (Function n)) reason.NoBody refl)) f g h s
     form_holds span (t.Object p) f g h s =

@@ -1,5 +1,5 @@
 -- The library functions give values of the sorts of their types.
-use Rattle.std.proofs.Common.{◌≡◌, ℕ, zero, suc, Bool, true, false, List, [], ◌∷◌, ◌++◌, map, length, drop, pos, ℤ, Option, Some, None, Result, Ok, refl}
+use Rattle.std.proofs.Common.{◌≡◌, ℕ, zero, suc, Bool, true, false, List, [], ◌∷◌, ◌++◌, map, length, pos, ℤ, Option, Some, None, Result, Ok, refl}
 use Rattle.std.proofs.Math.Path.{subst}
 use Rattle.std.specs.Prelude.{slice_get, slice_index_or, if◌then◌else◌, nat_lt, take, ◌*◌}
 use Rattle.tok_base.specs.declared.token.Span.{Span}
@@ -7,7 +7,7 @@ use Rattle.num_ops.specs.declared.kinds.IntKind.{IntKind}
 use Rattle.num_ops.specs.declared.kinds.IntKind.TheVariants as k
 use Rattle.c_core.specs.declared.values.Fault.{Fault}
 use Rattle.c_core.specs.declared.values.End.TheVariants.{OutputFull}
-use Rattle.c_core.specs.Blocks.{copy, fill, reached, if_reached}
+use Rattle.c_core.specs.Blocks.{copy, fill}
 use Rattle.c_core.specs.declared.values.Pointer.{Pointer}
 use Rattle.c_core.specs.declared.values.Pointer.TheVariants.{Null, Object, Function}
 use Rattle.c_core.specs.declared.values.Value.{Value}
@@ -122,7 +122,7 @@ compared_sort span p q count f g h s =
 
 length_sort : (span : Span) (p : Value) → GoesOnWith (IsOf (scalar.Int k.ULong)) (act (string_length span p))
 length_sort span p f g h s =
-    acted_holds (IsOf (scalar.Int k.ULong)) (string_length span p s.world) f g h (numbered_is k.ULong span (if_reached (reached s.world.blocks (pointer_in p) 1 1 false) (λ site. text_length (drop site.offset site.block.cells))) pos s.world) s
+    acted_holds (IsOf (scalar.Int k.ULong)) (string_length span p s.world) f g h (numbered_is k.ULong span (text_length s.world.blocks (pointer_in p)) pos s.world) s
 
 plain_typed : AreTyped library_functions library_types
 plain_typed = (

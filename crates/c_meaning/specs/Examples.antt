@@ -1,26 +1,41 @@
 -- What small programs mean, all by computation.
 use Rattle.std.specs.Prelude.{◌≡◌, ℕ, Bool, true, false, List, [], ◌∷◌, pos, Option, Some, None, codes}
-use Rattle.c_core.specs.declared.values.Reason.TheVariants as reason
+use Rattle.tok_base.specs.declared.reason.Reason.TheVariants as reason
 use Rattle.c_core.specs.declared.values.End.{End}
 use Rattle.c_core.specs.declared.values.End.TheVariants.{Exit, Trap, Spent}
 use Rattle.c_core.specs.declared.tree.LibMark.TheVariants as mark
 use Rattle.c_core.specs.Tree.{Program}
 use Rattle.c_meaning.specs.Run.{Request, Alloc, Free, Site, Token, Result}
 use Rattle.c_core.specs.Library.{callee_of}
+use Rattle.num_ops.specs.declared.kinds.IntKind.TheVariants as k
+use Rattle.c_core.specs.declared.values.Pointer.TheVariants.{Null, Object, Function}
+use Rattle.c_core.specs.declared.values.Value.TheVariants as value
+use Rattle.c_meaning.specs.Rules.{int, number_in, pointer_in, is_null}
 use Rattle.c_meaning.specs.Meaning.{Tokens, meaning}
 use Rattle.c_meaning.specs.Programs.{span, read_of_new_block, read_of_dead_block, third_is_refused, refused_realloc, three_turns, overflow, echo, calls_sum, sum_type, other_type, calls_itself, torn, overlapping, writes_text}
 
 abbrev tokens : Tokens
 tokens = record { site = λ k. k; mark = λ k. k; fallback = 0 }
 
-abbrev runs : Program → List ℕ → List Bool → ℕ → Option Result
+abbrev pub runs : Program → List ℕ → List Bool → ℕ → Option Result
 runs c input answers ticks = meaning c tokens input answers ticks
 
-abbrev gives : List ℕ → End → List Request → Option Result
+abbrev pub gives : List ℕ → End → List Request → Option Result
 gives output end requests = Some (record { output = output; end = end; requests = requests })
 
-abbrev ends : End → Option Result
+abbrev pub ends : End → Option Result
 ends end = gives [] end []
+
+-- operands of both sorts, and what the rules take a pointer for where an integer stands, or the other way round
+abbrev pub OperandRows : Type 0
+OperandRows =
+    (number_in (int k.Long (pos 7)) ≡ record { kind = k.Long; value = pos 7 })
+    × (number_in (value.Ptr (Object 3 16)) ≡ record { kind = k.Int; value = pos 0 })
+    × (pointer_in (value.Ptr (Object 3 16)) ≡ Object 3 16)
+    × (pointer_in (int k.Long (pos 7)) ≡ Null)
+    × (is_null Null ≡ true)
+    × (is_null (Object 3 16) ≡ false)
+    × (is_null (Function 0) ≡ false)
 
 -- a new block's cells are undefined, whatever stood in the block before it; a freed block stays dead, though a new
 -- one may have its place; a refused `realloc` keeps the old block

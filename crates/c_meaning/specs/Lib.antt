@@ -5,6 +5,8 @@ pub mod Storage
 pub mod Meaning
 pub mod Programs
 pub mod Examples
+pub mod MorePrograms
+pub mod MoreExamples
 pub mod Formed
 pub mod Log
 pub mod Laws

@@ -6,12 +6,13 @@ use Rattle.c_core.specs.declared.values.Pointer.{Pointer}
 use Rattle.c_core.specs.declared.values.Pointer.TheVariants.{Null, Object, Function}
 use Rattle.c_core.specs.declared.values.Value.{Value}
 use Rattle.c_core.specs.declared.values.Value.TheVariants as value
-use Rattle.c_core.specs.declared.values.Reason.{Reason}
-use Rattle.c_core.specs.declared.values.Reason.TheVariants as reason
+use Rattle.tok_base.specs.declared.reason.Reason.{Reason}
+use Rattle.tok_base.specs.declared.reason.Reason.TheVariants as reason
 use Rattle.c_core.specs.declared.values.End.TheVariants.{Exit, Trap, Spent}
 use Rattle.c_core.specs.declared.tree.LibMark.{LibMark}
 use Rattle.c_core.specs.declared.tree.LibMark.TheVariants as mark
 use Rattle.c_core.specs.declared.tree.FixedObject.{FixedObject}
+use Rattle.c_core.specs.declared.tree.Place.TheVariants as place
 use Rattle.c_core.specs.Tree as t
 use Rattle.c_core.specs.Tree.{Expr, At, Form, Exprs, no_exprs, one_expr, MaybeExpr, NoExpr, TheExpr, Stmt, Else, NoElse, Otherwise, Stmts, no_stmts, one_stmt, Program}
 use Rattle.c_core.specs.Values.{kind_of}
@@ -19,8 +20,8 @@ use Rattle.range_heap.specs.Blocks.{rounded}
 use Rattle.c_meaning.specs.declared.log.Flow.{Flow}
 use Rattle.c_meaning.specs.declared.log.Flow.TheVariants.{Next, Broke, Continued, Returned}
 use Rattle.c_meaning.specs.Run.{Run, Label, Site, Plain, Token, Result as Outcome, answered}
-use Rattle.c_meaning.specs.World.{World, State, M, Acted, Gives, give, ◌>>=◌, ◌>>◌, over, stop, tick, begins, act, change, judged, take_room, give_room, make_local, make_locals, end_locals, within, local_block, request, release}
-use Rattle.c_meaning.specs.Rules.{int, truth_value, no_value, number_in, pointer_in, natural_in, holds, convert, arith, shift, compare_int, truth, ptr_add, ptr_diff, compare_ptr, modified, size_in}
+use Rattle.c_meaning.specs.World.{World, State, M, Acted, Gives, Stops, give, ◌>>=◌, ◌>>◌, over, stop, tick, begins, act, change, judged, take_room, give_room, make_local, make_locals, end_locals, within, local_block, request, release}
+use Rattle.c_meaning.specs.Rules.{int, truth_value, no_value, pointer_in, natural_in, exit_code, holds, convert, arith, shift, compare_int, truth, ptr_add, ptr_diff, compare_ptr, modified, size_in}
 use Rattle.c_core.specs.Library.{LibraryFunction, Malloc, Calloc, Realloc, FreeIt, GetChar, PutChar, MemCpy, MemMove, MemSet, MemCmp, StrLen, ExitNow, AbortNow, library_functions, Callee, callee_of}
 use Rattle.c_meaning.specs.Storage.{load_at, store_at, copy_record, with_fixed, address, get_char, put_byte, byte_in, copy_bytes, set_bytes, compare_bytes, string_length, allocated, zeroed, resized}
 
@@ -91,7 +92,7 @@ library MemMove span label a b c = act (copy_bytes span true a b c)
 library MemSet span label a b c = act (set_bytes span a b c)
 library MemCmp span label a b c = act (compare_bytes span a b c)
 library StrLen span label a b c = act (string_length span a)
-library ExitNow span label a b c = stop (Exit (number_in a).value)
+library ExitNow span label a b c = stop (Exit (exit_code a))
 library AbortNow span label a b c = stop (Trap reason.Abort span)
 
 abbrev pub library_call : Option LibraryFunction → Span → LibMark → List Value → M Value
@@ -127,7 +128,7 @@ module _ (c : Program) (marks : ℕ → ℕ) (call : Calls) where
 
     pub mean_form : Span → Form → M Value
     mean_form span (t.Const v) = give v
-    mean_form span (t.Text n) = give (value.Ptr (Object n 0))
+    mean_form span (t.Text n) = act (λ w. judged span (address c.fixed (place.Fixed n) w) w)
     mean_form span (t.Func f) = act (judged span (function_address c.funcs f))
     mean_form span (t.Object place) = act (λ w. judged span (address c.fixed place w) w)
     mean_form span (t.Load p kind) = do
@@ -225,6 +226,10 @@ module _ (c : Program) (marks : ℕ → ℕ) (call : Calls) where
 
 -- ---- statements
 
+-- the span of what no expression of the program does
+abbrev pub nowhere : Span
+nowhere = record { start = 0; end = 0 }
+
 -- 6.8.6: the statement behind one that ended in this way
 abbrev pub if_next : Flow → M Flow → M Flow
 if_next Next m = m
@@ -256,10 +261,13 @@ loop true test turning = do
 loop false test turning = turning
 
 -- 6.7.9, paragraph 21: an aggregate is zero where its initialiser says nothing
+abbrev pub zero_block : (block : Option ℕ) → World → Acted (Unit {0})
+zero_block None w = Stops (Trap reason.NoBody nowhere)
+zero_block (Some n) w = zeroed nowhere n (size_in (slice_get w.blocks n)) w
+
 abbrev pub zero_first : Bool → (local : ℕ) → World → Acted (Unit {0})
 zero_first false x w = Gives tt w
-zero_first true x w =
-    zeroed (record { start = 0; end = 0 }) (local_block w x) (size_in (slice_get w.blocks (local_block w x))) w
+zero_first true x w = zero_block (local_block w x) w
 
 module _ (c : Program) (marks : ℕ → ℕ) (call : Calls) (n : ℕ) where
   abbrev mutual
@@ -318,13 +326,17 @@ abbrev pub parameters : (first : ℕ) → (sizes : List ℕ) → List (ℕ × �
 parameters x [] = []
 parameters x (size ∷ sizes) = (x, size) ∷ parameters (x + 1) sizes
 
+abbrev pub store_argument : Span → (block : Option ℕ) → Value → World → Acted Value
+store_argument span None v w = Stops (Trap reason.NoBody span)
+store_argument span (Some n) v w = store_at span (Object n 0) (kind_of v) v w
+
 -- 6.9.1, paragraph 10: each is made, and gets the value of its argument
 abbrev pub make_parameters : Span → List (ℕ × ℕ) → List Value → M (Unit {0})
 make_parameters span [] args = give tt
 make_parameters span (o ∷ objects) [] = give tt
 make_parameters span (o ∷ objects) (v ∷ args) = do
   make_local o.0 o.1
-  stored ← act (λ w. store_at span (Object (local_block w o.0) 0) (kind_of v) v w)
+  stored ← act (λ w. store_argument span (local_block w o.0) v w)
   make_parameters span objects args
 
 -- 6.9.1, paragraph 12; 5.1.2.2.3: the value of a call whose function ended in this way
@@ -385,9 +397,6 @@ make_fixed (o ∷ fixed) = do
   act (change (with_fixed o))
   make_fixed fixed
 
-abbrev pub nowhere : Span
-nowhere = record { start = 0; end = 0 }
-
 abbrev pub type_of : Option t.Function → List ℕ
 type_of None = []
 type_of (Some f) = f.ty
@@ -398,12 +407,12 @@ call_main c call None = stop (Trap reason.NoBody nowhere)
 call_main c call (Some f) = call (value.Ptr (Function f)) (type_of (slice_get c.funcs f)) [] true nowhere
 
 abbrev pub exit : Value → State → Run
-exit v s = over (Exit (number_in v).value) s
+exit v s = over (Exit (exit_code v)) s
 
 abbrev pub start : (input : List ℕ) → (ticks : ℕ) → State
 start input ticks = record {
   ticks = ticks;
-  world = record { blocks = []; makers = []; locals = []; input = input; output = []; room = 4194304; asked = 0 };
+  world = record { blocks = []; grants = []; locals = []; input = input; output = []; room = 4194304; asked = 0 };
 }
 
 -- the run with so many ticks, where calls and loops go `depth` deep at most

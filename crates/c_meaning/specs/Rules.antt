@@ -17,8 +17,8 @@ use Rattle.c_core.specs.declared.values.Value.{Value}
 use Rattle.c_core.specs.declared.values.Value.TheVariants as value
 use Rattle.c_core.specs.declared.values.Scalar.{Scalar}
 use Rattle.c_core.specs.declared.values.Scalar.TheVariants as scalar
-use Rattle.c_core.specs.declared.values.Reason.{Reason}
-use Rattle.c_core.specs.declared.values.Reason.TheVariants as reason
+use Rattle.tok_base.specs.declared.reason.Reason.{Reason}
+use Rattle.tok_base.specs.declared.reason.Reason.TheVariants as reason
 use Rattle.c_core.specs.declared.tree.ModifyOp.{ModifyOp}
 use Rattle.c_core.specs.declared.tree.ModifyOp.TheVariants as modify
 use Rattle.c_core.specs.Values.{same_pointer}
@@ -47,6 +47,10 @@ pointer_in (value.Int n) = Null
 
 abbrev pub natural_in : Value → ℕ
 natural_in v = unsigned_abs (number_in v).value
+
+-- 7.22.4.4, 5.1.2.2.3: the argument of `exit` and the result of `main` have the type `int`
+abbrev pub exit_code : Value → ℤ
+exit_code v = converted k.Int (number_in v).value
 
 -- whether a condition holds: its value compares unequal to 0
 abbrev pub holds : Value → Bool

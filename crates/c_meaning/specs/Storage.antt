@@ -1,5 +1,5 @@
 -- Accesses of a run, each with the span of what traps, and the library functions on storage and streams.
-use Rattle.std.specs.Prelude.{ℕ, zero, suc, ◌+◌, Bool, true, false, ◌&&◌, ◌==◌, if◌then◌else◌, nat_lt, List, [], ◌∷◌, ◌++◌, drop, length, replicate, ℤ, pos, negsuc, Option, Some, None, Result, Ok, Err, slice_get, slice_set, min}
+use Rattle.std.specs.Prelude.{ℕ, zero, suc, ◌+◌, Bool, true, false, ◌&&◌, ◌==◌, if◌then◌else◌, nat_lt, List, [], ◌∷◌, ◌++◌, length, replicate, ℤ, pos, negsuc, Option, Some, None, Result, Ok, Err, slice_get, slice_set, min}
 use Rattle.std.specs.Int.{int_rem_euclid}
 use Rattle.std.specs.Prelude.{unsigned_abs}
 use Rattle.tok_base.specs.declared.token.Span.{Span}
@@ -9,22 +9,22 @@ use Rattle.c_core.specs.declared.values.Pointer.TheVariants.{Object}
 use Rattle.c_core.specs.declared.values.Value.{Value}
 use Rattle.c_core.specs.declared.values.Value.TheVariants as value
 use Rattle.c_core.specs.declared.values.Cell.{Cell}
-use Rattle.c_core.specs.declared.values.Cell.TheVariants.{Undefined, Byte, Part}
+use Rattle.c_core.specs.declared.values.Cell.TheVariants.{Byte}
 use Rattle.c_core.specs.declared.values.Scalar.{Scalar}
 use Rattle.c_core.specs.declared.values.Scalar.TheVariants as scalar
 use Rattle.c_core.specs.declared.values.BlockKind.{BlockKind}
 use Rattle.c_core.specs.declared.values.BlockKind.TheVariants as kind
 use Rattle.c_core.specs.declared.values.Fault.{Fault}
 use Rattle.c_core.specs.declared.values.Fault.TheVariants as fault
-use Rattle.c_core.specs.declared.values.Reason.{Reason}
-use Rattle.c_core.specs.declared.values.Reason.TheVariants as reason
+use Rattle.tok_base.specs.declared.reason.Reason.{Reason}
+use Rattle.tok_base.specs.declared.reason.Reason.TheVariants as reason
 use Rattle.c_core.specs.declared.values.End.TheVariants.{Trap, OutputFull}
 use Rattle.c_core.specs.declared.tree.Place.{Place}
 use Rattle.c_core.specs.declared.tree.Place.TheVariants as place
 use Rattle.c_core.specs.declared.tree.FixedObject.{FixedObject}
 use Rattle.c_core.specs.Values.{same_pointer}
-use Rattle.c_core.specs.Blocks.{Block, Blocks, Site, reached, if_reached, moved, load, store, copy, fill, reason_of}
-use Rattle.c_meaning.specs.World.{World, Acted, Gives, Stops, local_block, judged}
+use Rattle.c_core.specs.Blocks.{Block, Blocks, Site, reached, moved, load, store, copy, fill, reason_of}
+use Rattle.c_meaning.specs.World.{World, Acted, Gives, Stops, local_block, judged, is_heap}
 use Rattle.c_meaning.specs.Rules.{int, if_ok, natural_in, number_in, pointer_in, size_in, as_kind}
 
 abbrev pub with_reason : {A : Type 0} → Result A Fault → Result A Reason
@@ -76,16 +76,21 @@ fixed_block o =
     else record { kind = kind.Fixed; size = 0; live = true; cells = [] }
 
 abbrev pub with_fixed : FixedObject → World → World
-with_fixed o w = record w { blocks = w.blocks ++ fixed_block o ∷ []; makers = w.makers ++ 0 ∷ [] }
+with_fixed o w = record w { blocks = w.blocks ++ fixed_block o ∷ [] }
 
 abbrev pub is_defined : Option FixedObject → Bool
 is_defined None = false
 is_defined (Some o) = o.defined
 
+-- a local that was made
+abbrev pub local_address : (block : Option ℕ) → Result Value Reason
+local_address None = Err reason.NoBody
+local_address (Some n) = Ok (value.Ptr (Object n 0))
+
 -- 6.9, paragraph 5: the address of an object that has a definition
 abbrev pub address : List FixedObject → Place → World → Result Value Reason
 address fixed (place.Fixed n) w = if is_defined (slice_get fixed n) then Ok (value.Ptr (Object n 0)) else Err reason.NoBody
-address fixed (place.Local x) w = Ok (value.Ptr (Object (local_block w x) 0))
+address fixed (place.Local x) w = local_address (local_block w x)
 
 -- ---- streams
 
@@ -135,23 +140,25 @@ abbrev pub compare_bytes : Span → (p q count : Value) → World → Acted Valu
 compare_bytes span p q count w =
     judged span (with_reason (if_ok (compared_from w.blocks (pointer_in p) (pointer_in q) (natural_in count) 0) (λ z. Ok (int k.Int z)))) w
 
--- the cells before the first zero byte, each of which must be a byte
-abbrev pub text_length : List Cell → Result ℕ Fault
-text_length [] = Err fault.Bounds
-text_length (Undefined ∷ cells) = Err fault.Indeterminate
-text_length (Part p i ∷ cells) = Err fault.PointerBytes
-text_length (Byte b ∷ cells) = if b == 0 then Ok 0 else if_ok (text_length cells) (λ n. Ok (n + 1))
+-- how many bytes stand before the first zero byte, of which `i` are read and `left` may be
+abbrev pub length_from : Blocks → Pointer → (left at : ℕ) → Result ℕ Fault
+length_from bs p zero i = Err fault.Bounds
+length_from bs p (suc left) i = if_ok (byte_at bs p i) (λ b. if b == 0 then Ok i else length_from bs p left (i + 1))
+
+abbrev pub extent : Blocks → Pointer → ℕ
+extent bs (Object n offset) = size_in (slice_get bs n)
+extent bs p = 0
+
+-- no text reaches past the end of its block: the byte behind the last one can't be read
+abbrev pub text_length : Blocks → Pointer → Result ℕ Fault
+text_length bs p = length_from bs p (suc (extent bs p)) 0
 
 -- 7.24.6.3
 abbrev pub string_length : Span → Value → World → Acted Value
 string_length span p w =
-    judged span (with_reason (if_ok (if_reached (reached w.blocks (pointer_in p) 1 1 false) (λ site. text_length (drop site.offset site.block.cells))) (λ n. Ok (int k.ULong (pos n))))) w
+    judged span (with_reason (if_ok (text_length w.blocks (pointer_in p)) (λ n. Ok (int k.ULong (pos n))))) w
 
 -- ---- allocated storage
-
-abbrev pub is_heap : BlockKind → Bool
-is_heap kind.Heap = true
-is_heap other = false
 
 abbrev pub is_heap_block : Option Block → Bool
 is_heap_block None = false

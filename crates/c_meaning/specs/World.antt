@@ -3,7 +3,7 @@ use Rattle.std.specs.Prelude.{ℕ, zero, suc, ◌+◌, ◌-◌, Bool, true, fals
 use Rattle.tok_base.specs.declared.token.Span.{Span}
 use Rattle.c_core.specs.declared.values.BlockKind.{BlockKind}
 use Rattle.c_core.specs.declared.values.BlockKind.TheVariants as kind
-use Rattle.c_core.specs.declared.values.Reason.{Reason}
+use Rattle.tok_base.specs.declared.reason.Reason.{Reason}
 use Rattle.c_core.specs.declared.values.End.{End}
 use Rattle.c_core.specs.declared.values.End.TheVariants.{Trap, Spent, StackFull}
 use Rattle.c_core.specs.Blocks.{Blocks, placed, killed}
@@ -13,8 +13,8 @@ use Rattle.c_meaning.specs.Run.{Run, Ended, Asks, Frees, Begins, Label}
 -- everything but the ticks
 pub record World : Type 0 where
   pub blocks : Blocks
-  -- for each block the number of the request that made it; 0 where none did
-  pub makers : List ℕ
+  -- the numbers of the requests that were granted, in order: the first made the first allocated block, and so on
+  pub grants : List ℕ
   -- the blocks of the function's locals
   pub locals : List (Option ℕ)
   -- the rest of the input
@@ -84,9 +84,9 @@ judged span (Err reason) w = Stops (Trap reason span)
 
 -- ---- storage
 
--- 6.2.4, paragraph 5: a new object, or 7.22.3: a new allocated block that the request with number `maker` made
-abbrev pub with_block : BlockKind → (size maker : ℕ) → World → World
-with_block kind size maker w = record w { blocks = placed w.blocks kind size; makers = w.makers ++ maker ∷ [] }
+-- 6.2.4, paragraph 5: a new object, or 7.22.3: a new allocated block
+abbrev pub with_block : BlockKind → (size : ℕ) → World → World
+with_block kind size w = record w { blocks = placed w.blocks kind size }
 
 abbrev pub without_block : ℕ → World → World
 without_block n w = record w { blocks = killed w.blocks n }
@@ -103,17 +103,17 @@ give_room n w = record w { room = w.room + n }
 abbrev pub set_local : List (Option ℕ) → (local block : ℕ) → List (Option ℕ)
 set_local locals x n = slice_set (locals ++ replicate (suc x - length locals) None) x (Some n)
 
-abbrev pub block_in : Option (Option ℕ) → ℕ
-block_in (Some (Some n)) = n
-block_in other = 0
+abbrev pub block_in : Option (Option ℕ) → Option ℕ
+block_in None = None
+block_in (Some block) = block
 
--- the block of a local
-abbrev pub local_block : World → ℕ → ℕ
+-- the block of a local, where it was made
+abbrev pub local_block : World → ℕ → Option ℕ
 local_block w x = block_in (slice_get w.locals x)
 
 -- 6.2.4, paragraph 5: an object of automatic storage duration is made; its value is indeterminate
 abbrev pub with_local : (local size : ℕ) → World → World
-with_local x size w = record (with_block kind.Auto size 0 w) { locals = set_local w.locals x (length w.blocks) }
+with_local x size w = record (with_block kind.Auto size w) { locals = set_local w.locals x (length w.blocks) }
 
 abbrev pub make_local : (local size : ℕ) → M (Unit {0})
 make_local x size = do
@@ -121,9 +121,13 @@ make_local x size = do
   act (take_room (rounded size))
   act (change (with_local x size))
 
+abbrev pub without_local : (block : Option ℕ) → World → World
+without_local None w = w
+without_local (Some n) w = without_block n w
+
 -- 6.2.4, paragraph 2: it dies, and its room is given back
 abbrev pub end_local : (local size : ℕ) → World → World
-end_local x size w = give_room (rounded size) (without_block (local_block w x) w)
+end_local x size w = give_room (rounded size) (without_local (local_block w x) w)
 
 abbrev pub make_locals : List (ℕ × ℕ) → M (Unit {0})
 make_locals [] = give tt
@@ -131,9 +135,10 @@ make_locals (o ∷ objects) = do
   make_local o.0 o.1
   make_locals objects
 
+-- the object that was made last dies first
 abbrev pub end_locals : List (ℕ × ℕ) → World → World
 end_locals [] w = w
-end_locals (o ∷ objects) w = end_locals objects (end_local o.0 o.1 w)
+end_locals (o ∷ objects) w = end_local o.0 o.1 (end_locals objects w)
 
 -- a function's own locals, while it runs
 abbrev pub within : {A : Type 0} → M A → M A
@@ -141,9 +146,24 @@ within m = λ next s. m (λ a t. next a (record t { world = record (t.world) { l
 
 -- ---- requests
 
+abbrev pub is_heap : BlockKind → Bool
+is_heap kind.Heap = true
+is_heap other = false
+
+-- how many allocated blocks were made before the block with number n
+abbrev pub heaps_before : (n : ℕ) → Blocks → ℕ
+heaps_before zero bs = 0
+heaps_before (suc n) [] = 0
+heaps_before (suc n) (b ∷ bs) = (if is_heap b.kind then 1 else 0) + heaps_before n bs
+
+-- the number of the request that made an allocated block: as many were granted before it as there are allocated blocks
+-- before the block
+abbrev pub maker : World → (block : ℕ) → ℕ
+maker w n = slice_index_or w.grants (heaps_before n w.blocks) 0
+
 -- the world after an answer: a new block of undefined cells where it was granted
 abbrev pub after_answer : (size : ℕ) → Bool → World → World
-after_answer size true w = record (with_block kind.Heap size w.asked w) { asked = suc w.asked }
+after_answer size true w = record (with_block kind.Heap size w) { grants = w.grants ++ w.asked ∷ []; asked = suc w.asked }
 after_answer size false w = record w { asked = suc w.asked }
 
 -- 7.22.3: a request for storage, at an alignment of 16; gives the new block's number where it is granted
@@ -152,4 +172,4 @@ request label size = λ next s. Asks label size 16 (λ granted. next (if granted
 
 -- 7.22.3.3: the block with this number is given back
 abbrev pub release : (block : ℕ) → M (Unit {0})
-release n = λ next s. Frees (slice_index_or s.world.makers n 0) (next tt (record s { world = record (without_block n s.world) { asked = suc s.world.asked } }))
+release n = λ next s. Frees (maker s.world n) (next tt (record s { world = record (without_block n s.world) { asked = suc s.world.asked } }))

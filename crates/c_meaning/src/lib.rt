@@ -10,11 +10,10 @@ mod examples;
 mod laws;
 mod log;
 mod operands;
-#[cfg(test)]
-mod tests;
 
 pub use examples::{
-    allocation_examples, call_examples, end_examples, sort_examples, trap_examples,
+    allocation_examples, call_examples, end_examples, more_traps, operand_examples,
+    request_examples, run_examples, sort_examples, text_examples, trap_examples,
     well_formed_examples,
 };
 pub use laws::{answer_law, depth_law, one_run, sort_law};

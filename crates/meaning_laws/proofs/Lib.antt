@@ -1,0 +1,12 @@
+pub mod Lowest
+pub mod Goes
+pub mod Tame
+pub mod Held
+pub mod Quiet
+pub mod Sound
+pub mod Numbers
+pub mod Numbered
+pub mod Stays
+pub mod ToldRuns
+pub mod Retagged
+pub mod Unplaced
