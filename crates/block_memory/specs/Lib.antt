@@ -1,0 +1,4 @@
+pub mod Given
+pub mod Rooms
+pub mod Shape
+pub mod CellForm
