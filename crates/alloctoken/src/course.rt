@@ -94,7 +94,7 @@ fn tagged_text(alloc: Global, unit: &Unit, max: u32) -> Result<Bytes, NoMemory>
     ensures { IfOk result (λ text. text ≡ unit_text (tagged max (bare_unit (view_unit unit.now)))) }
 {
     let tagged = tagged_unit(alloc, unit, max)?;
-    print_unit(alloc, &tagged)
+    print_unit(alloc, tagged.get())
 }
 
 /// The text of a unit of this text, with its sites tagged.

@@ -2,23 +2,17 @@
 
 ghost use Rattle.std.specs.Prelude.{◌≡◌, IfOk};
 
+use c_held as held;
 use c_tree::{Attribute, AttributeArgument, Entry, Qualifier};
 use std::alloc::Global;
 use tok_base::{Bytes, Items, NoMemory};
 
-/// What can be copied, where there is memory.
-pub trait Copied: Drop {
-    fn copied(&self, alloc: Global) -> Result<Self, NoMemory>
-        ensures { IfOk result (λ copy. copy ≡ self.now) };
-}
-
-/// A copy of each, in order.
-pub fn all_copied<T: Copied>(alloc: Global, xs: &Items<T>) -> Result<Items<T>, NoMemory>
+pub fn texts(alloc: Global, xs: &Items<Bytes>) -> Result<Items<Bytes>, NoMemory>
     ensures { IfOk result (λ copy. copy ≡ xs.now) }
 {
     let mut copy = Items::new(alloc);
     for x in xs.as_slice() {
-        let x = x.copied(alloc)?;
+        let x = bytes(alloc, x)?;
         copy.push(x)?;
     }
     Ok(copy)
@@ -48,29 +42,34 @@ pub fn qualifiers(alloc: Global, qs: &Items<Qualifier>) -> Result<Items<Qualifie
     Ok(Items::from_slice(alloc, qs.as_slice())?)
 }
 
-impl Copied for Bytes {
-    fn copied(&self, alloc: Global) -> Result<Bytes, NoMemory> {
-        bytes(alloc, self)
-    }
-}
-
-impl Copied for AttributeArgument {
-    fn copied(&self, alloc: Global) -> Result<AttributeArgument, NoMemory> {
-        match self {
-            AttributeArgument::Number(at, n) => {
-                let n = bytes(alloc, n)?;
-                Ok(AttributeArgument::Number(*at, n))
-            }
-            AttributeArgument::Text(at, ts) => {
-                let ts = all_copied(alloc, ts)?;
-                Ok(AttributeArgument::Text(*at, ts))
-            }
+fn argument(alloc: Global, x: &AttributeArgument) -> Result<AttributeArgument, NoMemory>
+    ensures { IfOk result (λ copy. copy ≡ x.now) }
+{
+    match x {
+        AttributeArgument::Number(at, n) => {
+            let n = bytes(alloc, n)?;
+            Ok(AttributeArgument::Number(*at, n))
+        }
+        AttributeArgument::Text(at, ts) => {
+            let ts = texts(alloc, ts)?;
+            Ok(AttributeArgument::Text(*at, ts))
         }
     }
 }
 
+fn arguments(alloc: Global, xs: &Items<AttributeArgument>) -> Result<held::Arguments, NoMemory>
+    ensures { IfOk result (λ copy. copy ≡ xs.now) }
+{
+    let mut copy = held::Arguments::new(alloc);
+    for x in xs.as_slice() {
+        let x = argument(alloc, x)?;
+        copy.push(x)?;
+    }
+    Ok(copy)
+}
+
 /// The arguments of an attribute's entry.
-fn arguments(
+fn maybe_arguments(
     alloc: Global,
     xs: &Option<Items<AttributeArgument>>,
 ) -> Result<Option<Items<AttributeArgument>>, NoMemory>
@@ -78,27 +77,49 @@ fn arguments(
 {
     match xs {
         Some(xs) => {
-            let xs = all_copied(alloc, xs)?;
-            Ok(Some(xs))
+            let xs = arguments(alloc, xs)?;
+            Ok(Some(xs.open()))
         }
         None => Ok(None),
     }
 }
 
-impl Copied for Entry {
-    fn copied(&self, alloc: Global) -> Result<Entry, NoMemory> {
-        let name = bytes(alloc, &self.name)?;
-        let arguments = arguments(alloc, &self.arguments)?;
-        Ok(Entry { name, arguments })
-    }
+fn entry(alloc: Global, x: &Entry) -> Result<Entry, NoMemory>
+    ensures { IfOk result (λ copy. copy ≡ x.now) }
+{
+    let name = bytes(alloc, &x.name)?;
+    let arguments = maybe_arguments(alloc, &x.arguments)?;
+    Ok(Entry { name, arguments })
 }
 
-impl Copied for Attribute {
-    fn copied(&self, alloc: Global) -> Result<Attribute, NoMemory> {
-        let entries = all_copied(alloc, &self.entries)?;
-        Ok(Attribute {
-            at: self.at,
-            entries,
-        })
+fn entries(alloc: Global, xs: &Items<Entry>) -> Result<held::Entries, NoMemory>
+    ensures { IfOk result (λ copy. copy ≡ xs.now) }
+{
+    let mut copy = held::Entries::new(alloc);
+    for x in xs.as_slice() {
+        let x = entry(alloc, x)?;
+        copy.push(x)?;
     }
+    Ok(copy)
+}
+
+pub fn attribute(alloc: Global, x: &Attribute) -> Result<Attribute, NoMemory>
+    ensures { IfOk result (λ copy. copy ≡ x.now) }
+{
+    let entries = entries(alloc, &x.entries)?;
+    Ok(Attribute {
+        at: x.at,
+        entries: entries.open(),
+    })
+}
+
+pub fn attributes(alloc: Global, xs: &Items<Attribute>) -> Result<held::Attributes, NoMemory>
+    ensures { IfOk result (λ copy. copy ≡ xs.now) }
+{
+    let mut copy = held::Attributes::new(alloc);
+    for x in xs.as_slice() {
+        let x = attribute(alloc, x)?;
+        copy.push(x)?;
+    }
+    Ok(copy)
 }

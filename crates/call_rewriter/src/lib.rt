@@ -7,6 +7,7 @@
 
 mod copy;
 mod laws;
+mod made;
 mod plan;
 mod prototypes;
 mod site;

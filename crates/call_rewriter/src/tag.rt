@@ -11,9 +11,11 @@ ghost use Rattle.call_rewriter.specs.Tagger.{HeadsEnum, HeadsList, HeadsRecord, 
 ghost use Rattle.call_rewriter.specs.Tagger.{put_declarator, put_enum, put_enumerator, put_expr, put_field, put_param, put_record, put_spec};
 ghost use Rattle.call_rewriter.specs.Tagged as tagged;
 
-use crate::copy::{Copied, all_copied, bytes, maybe_bytes, qualifiers};
+use crate::copy::{attribute, bytes, maybe_bytes, qualifiers, texts};
+use crate::made;
 use crate::plan::Plan;
 use crate::site::{Callee, Hooks};
+use c_held as held;
 use c_tree::{
     AssignOp, At, BinaryOp, Declarator, Enum, Enumerator, EnumeratorList, Expr, Field, Param,
     Record, Spec, TypeName, make,
@@ -59,7 +61,7 @@ fn site_in(hooks: Hooks, f: &Expr) -> Option<Callee>
 }
 
 /// A token as a constant of type unsigned long.
-fn token(alloc: Global, at: At, k: u32) -> Result<Expr, NoMemory>
+fn token(alloc: Global, at: At, k: u32) -> Result<held::Expr, NoMemory>
     ensures { IfOk result (λ e. bare (view e) ≡ u.Number (token_text k)) }
 {
     let mut buffer = Buffer::new();
@@ -67,11 +69,11 @@ fn token(alloc: Global, at: At, k: u32) -> Result<Expr, NoMemory>
     let mut text = Vec::new(alloc);
     text.extend_from_slice(digits)?;
     text.extend_from_slice(b"UL")?;
-    Ok(Expr::Number(at, Items::from_vec(text)))
+    Ok(held::Expr::new(Expr::Number(at, Items::from_vec(text))))
 }
 
 /// The arguments with one more behind them.
-fn with_last(mut args: Items<Expr>, last: Expr) -> Result<Items<Expr>, NoMemory>
+fn with_last(mut args: held::Exprs, last: Expr) -> Result<held::Exprs, NoMemory>
     ensures { IfOk result (λ xs. bare_exprs (exprs_of xs) ≡ with_last (bare_exprs (exprs_of args)) (bare (view last))) }
 {
     args.push(last)?;
@@ -79,14 +81,14 @@ fn with_last(mut args: Items<Expr>, last: Expr) -> Result<Items<Expr>, NoMemory>
 }
 
 /// The called name, with its parentheses, as the entry point's.
-fn entered(alloc: Global, at: At, callee: Callee, f: &Expr) -> Result<Expr, NoMemory>
+fn entered(alloc: Global, at: At, callee: Callee, f: &Expr) -> Result<held::Expr, NoMemory>
     ensures { IfOk result (λ e. bare (view e) ≡ tagged.entered (callee_seen callee) (bare (view f.now))) }
 {
     match f {
         Expr::Paren(own, f) => {
             let f = entered(alloc, at, callee, f)?;
-            let f = make::boxed(alloc, f)?;
-            Ok(Expr::Paren(*own, f))
+            let f = f.boxed(alloc)?;
+            Ok(held::Expr::new(Expr::Paren(*own, f.open())))
         }
         Expr::Name(own, _) => entry(alloc, *own, callee),
         _ => entry(alloc, at, callee),
@@ -94,28 +96,27 @@ fn entered(alloc: Global, at: At, callee: Callee, f: &Expr) -> Result<Expr, NoMe
 }
 
 /// The name of an entry point.
-fn entry(alloc: Global, at: At, callee: Callee) -> Result<Expr, NoMemory>
+fn entry(alloc: Global, at: At, callee: Callee) -> Result<held::Expr, NoMemory>
     ensures { IfOk result (λ e. bare (view e) ≡ u.Name (entry_point (callee_seen callee))) }
 {
     let name = Items::from_slice(alloc, callee.entry_point())?;
-    Ok(Expr::Name(at, name))
+    Ok(held::Expr::new(Expr::Name(at, name)))
 }
 
-/// The record with these fields.
-fn with_fields(alloc: Global, r: &Record, fields: Option<Items<Field>>) -> Result<Record, NoMemory>
-    ensures { IfOk result (λ y. (ss : u.Specs) → put_record y ss ≡ u.Record (out-Record r.now).is_union (out-Record r.now).tag (bare_body (body_of fields)) ss) }
+/// The record with this tag and these fields.
+fn with_fields(r: &Record, tag: Option<Bytes>, fields: Option<Items<Field>>) -> Record
+    ensures { (ss : u.Specs) → put_record result ss ≡ u.Record (out-Record r.now).is_union tag (bare_body (body_of fields)) ss }
 {
-    let tag = maybe_bytes(alloc, &r.tag)?;
-    Ok(Record {
+    Record {
         at: r.at,
         is_union: r.is_union,
         tag,
         fields,
-    })
+    }
 }
 
 #[cycle(tag)]
-pub fn expr(alloc: Global, plan: Plan, k: &mut u32, a: &Expr) -> Result<Expr, NoMemory>
+pub fn expr(alloc: Global, plan: Plan, k: &mut u32, a: &Expr) -> Result<held::Expr, NoMemory>
     ensures { IfOk result (λ e. Tags plan.max k.old k.new (tagged.tag plan.max (hooks_seen plan.hooks) (bare (view a.now))) (bare (view e))) }
 {
     match a {
@@ -124,30 +125,62 @@ pub fn expr(alloc: Global, plan: Plan, k: &mut u32, a: &Expr) -> Result<Expr, No
         Expr::Cond(at, c, a, b) => conditional(alloc, plan, k, *at, c, a, b),
         Expr::Binary(at, a, op, b) => binary(alloc, plan, k, *at, a, *op, b),
         Expr::Cast(at, t, a) => cast(alloc, plan, k, *at, t, a),
-        Expr::Prefix(at, op, a) => Ok(Expr::Prefix(*at, *op, boxed(alloc, plan, k, a)?)),
-        Expr::SizeofExpr(at, a) => Ok(Expr::SizeofExpr(*at, boxed(alloc, plan.operand(), k, a)?)),
+        Expr::Prefix(at, op, a) => {
+            let a = boxed(alloc, plan, k, a)?;
+            Ok(held::Expr::new(Expr::Prefix(*at, *op, a.open())))
+        }
+        Expr::SizeofExpr(at, a) => {
+            let a = boxed(alloc, plan.operand(), k, a)?;
+            Ok(held::Expr::new(Expr::SizeofExpr(*at, a.open())))
+        }
         Expr::SizeofType(at, t) => sizeof_type(alloc, plan, k, *at, t),
         Expr::Index(at, a, b) => index(alloc, plan, k, *at, a, b),
         Expr::Call(at, f, xs) => match site_in(plan.hooks, f) {
             Some(callee) => {
                 let name = entered(alloc, *at, callee, f)?;
                 let xs = site_arguments(alloc, plan, k, *at, xs)?;
-                make::call(alloc, *at, name, xs)
+                made::call(alloc, *at, name, xs)
             }
             None => {
                 let f = expr(alloc, plan, k, f)?;
                 let xs = exprs(alloc, plan, k, xs)?;
-                make::call(alloc, *at, f, xs)
+                made::call(alloc, *at, f, xs)
             }
         },
-        Expr::Dot(at, a, n) => Ok(Expr::Dot(*at, boxed(alloc, plan, k, a)?, bytes(alloc, n)?)),
-        Expr::Arrow(at, a, n) => Ok(Expr::Arrow(*at, boxed(alloc, plan, k, a)?, bytes(alloc, n)?)),
-        Expr::Post(at, a, op) => Ok(Expr::Post(*at, boxed(alloc, plan, k, a)?, *op)),
-        Expr::Name(at, n) => Ok(Expr::Name(*at, bytes(alloc, n)?)),
-        Expr::Number(at, n) => Ok(Expr::Number(*at, bytes(alloc, n)?)),
-        Expr::Char(at, n) => Ok(Expr::Char(*at, bytes(alloc, n)?)),
-        Expr::Text(at, ts) => Ok(Expr::Text(*at, all_copied(alloc, ts)?)),
-        Expr::Paren(at, a) => Ok(Expr::Paren(*at, boxed(alloc, plan, k, a)?)),
+        Expr::Dot(at, a, n) => {
+            let n = bytes(alloc, n)?;
+            let a = boxed(alloc, plan, k, a)?;
+            Ok(held::Expr::new(Expr::Dot(*at, a.open(), n)))
+        }
+        Expr::Arrow(at, a, n) => {
+            let n = bytes(alloc, n)?;
+            let a = boxed(alloc, plan, k, a)?;
+            Ok(held::Expr::new(Expr::Arrow(*at, a.open(), n)))
+        }
+        Expr::Post(at, a, op) => {
+            let a = boxed(alloc, plan, k, a)?;
+            Ok(held::Expr::new(Expr::Post(*at, a.open(), *op)))
+        }
+        Expr::Name(at, n) => {
+            let n = bytes(alloc, n)?;
+            Ok(held::Expr::new(Expr::Name(*at, n)))
+        }
+        Expr::Number(at, n) => {
+            let n = bytes(alloc, n)?;
+            Ok(held::Expr::new(Expr::Number(*at, n)))
+        }
+        Expr::Char(at, n) => {
+            let n = bytes(alloc, n)?;
+            Ok(held::Expr::new(Expr::Char(*at, n)))
+        }
+        Expr::Text(at, ts) => {
+            let ts = texts(alloc, ts)?;
+            Ok(held::Expr::new(Expr::Text(*at, ts)))
+        }
+        Expr::Paren(at, a) => {
+            let a = boxed(alloc, plan, k, a)?;
+            Ok(held::Expr::new(Expr::Paren(*at, a.open())))
+        }
         Expr::Builtin(at, xs) => builtin(alloc, plan, k, *at, xs),
     }
 }
@@ -160,12 +193,12 @@ fn comma(
     at: At,
     a: &Expr,
     b: &Expr,
-) -> Result<Expr, NoMemory>
+) -> Result<held::Expr, NoMemory>
     ensures { IfOk result (λ e. Tags plan.max k.old k.new (two u.Comma (tagged.tag plan.max (hooks_seen plan.hooks) (bare (view a.now))) (tagged.tag plan.max (hooks_seen plan.hooks) (bare (view b.now)))) (bare (view e))) }
 {
     let a = boxed(alloc, plan, k, a)?;
     let b = boxed(alloc, plan, k, b)?;
-    Ok(Expr::Comma(at, a, b))
+    Ok(held::Expr::new(Expr::Comma(at, a.open(), b.open())))
 }
 
 #[cycle(tag)]
@@ -177,12 +210,12 @@ fn assign(
     a: &Expr,
     op: AssignOp,
     b: &Expr,
-) -> Result<Expr, NoMemory>
+) -> Result<held::Expr, NoMemory>
     ensures { IfOk result (λ e. Tags plan.max k.old k.new (two (λ a b. u.Assign a (view_assign op) b) (tagged.tag plan.max (hooks_seen plan.hooks) (bare (view a.now))) (tagged.tag plan.max (hooks_seen plan.hooks) (bare (view b.now)))) (bare (view e))) }
 {
     let a = boxed(alloc, plan, k, a)?;
     let b = boxed(alloc, plan, k, b)?;
-    Ok(Expr::Assign(at, a, op, b))
+    Ok(held::Expr::new(Expr::Assign(at, a.open(), op, b.open())))
 }
 
 #[cycle(tag)]
@@ -194,13 +227,13 @@ fn conditional(
     c: &Expr,
     a: &Expr,
     b: &Expr,
-) -> Result<Expr, NoMemory>
+) -> Result<held::Expr, NoMemory>
     ensures { IfOk result (λ e. Tags plan.max k.old k.new (tagged.three u.Cond (tagged.tag plan.max (hooks_seen plan.hooks) (bare (view c.now))) (tagged.tag plan.max (hooks_seen plan.hooks) (bare (view a.now))) (tagged.tag plan.max (hooks_seen plan.hooks) (bare (view b.now)))) (bare (view e))) }
 {
     let c = boxed(alloc, plan, k, c)?;
     let a = boxed(alloc, plan, k, a)?;
     let b = boxed(alloc, plan, k, b)?;
-    Ok(Expr::Cond(at, c, a, b))
+    Ok(held::Expr::new(Expr::Cond(at, c.open(), a.open(), b.open())))
 }
 
 #[cycle(tag)]
@@ -212,12 +245,12 @@ fn binary(
     a: &Expr,
     op: BinaryOp,
     b: &Expr,
-) -> Result<Expr, NoMemory>
+) -> Result<held::Expr, NoMemory>
     ensures { IfOk result (λ e. Tags plan.max k.old k.new (two (λ a b. u.Binary a (view_op op) b) (tagged.tag plan.max (hooks_seen plan.hooks) (bare (view a.now))) (tagged.tag plan.max (hooks_seen plan.hooks) (bare (view b.now)))) (bare (view e))) }
 {
     let a = boxed(alloc, plan, k, a)?;
     let b = boxed(alloc, plan, k, b)?;
-    Ok(Expr::Binary(at, a, op, b))
+    Ok(held::Expr::new(Expr::Binary(at, a.open(), op, b.open())))
 }
 
 #[cycle(tag)]
@@ -228,12 +261,12 @@ fn cast(
     at: At,
     t: &TypeName,
     a: &Expr,
-) -> Result<Expr, NoMemory>
+) -> Result<held::Expr, NoMemory>
     ensures { IfOk result (λ e. Tags plan.max k.old k.new (tagged.three u.Cast (specs_tagging plan.max (hooks_seen plan.hooks) t.now.specs) (tagged.tag_maybe_declarator plan.max (hooks_seen plan.hooks) (bare_maybe_declarator (boxed_declarator t.now.declarator))) (tagged.tag plan.max (hooks_seen plan.hooks) (bare (view a.now)))) (bare (view e))) }
 {
     let t = type_name(alloc, plan, k, t)?;
     let a = expr(alloc, plan, k, a)?;
-    make::cast(alloc, at, t, a)
+    made::cast(alloc, at, t, a)
 }
 
 /// The size of a type, in which no call is a site.
@@ -244,11 +277,11 @@ fn sizeof_type(
     k: &mut u32,
     at: At,
     t: &TypeName,
-) -> Result<Expr, NoMemory>
+) -> Result<held::Expr, NoMemory>
     ensures { IfOk result (λ e. Tags plan.max k.old k.new (two u.SizeofType (specs_tagging plan.max no_hooks t.now.specs) (tagged.tag_maybe_declarator plan.max no_hooks (bare_maybe_declarator (boxed_declarator t.now.declarator)))) (bare (view e))) }
 {
     let t = type_name(alloc, plan.operand(), k, t)?;
-    make::sizeof_type(alloc, at, t)
+    made::sizeof_type(alloc, at, t)
 }
 
 #[cycle(tag)]
@@ -259,12 +292,12 @@ fn index(
     at: At,
     a: &Expr,
     b: &Expr,
-) -> Result<Expr, NoMemory>
+) -> Result<held::Expr, NoMemory>
     ensures { IfOk result (λ e. Tags plan.max k.old k.new (two u.Index (tagged.tag plan.max (hooks_seen plan.hooks) (bare (view a.now))) (tagged.tag plan.max (hooks_seen plan.hooks) (bare (view b.now)))) (bare (view e))) }
 {
     let a = boxed(alloc, plan, k, a)?;
     let b = boxed(alloc, plan, k, b)?;
-    Ok(Expr::Index(at, a, b))
+    Ok(held::Expr::new(Expr::Index(at, a.open(), b.open())))
 }
 
 /// The builtin, in whose operands no call is a site.
@@ -275,19 +308,19 @@ fn builtin(
     k: &mut u32,
     at: At,
     xs: &Items<Expr>,
-) -> Result<Expr, NoMemory>
+) -> Result<held::Expr, NoMemory>
     ensures { IfOk result (λ e. Tags plan.max k.old k.new (tagged.one u.Builtin (exprs_tagging plan.max no_hooks xs.now)) (bare (view e))) }
 {
     let xs = exprs(alloc, plan.operand(), k, xs)?;
-    Ok(make::builtin(at, xs))
+    Ok(held::Expr::new(make::builtin(at, xs.open())))
 }
 
 #[cycle(tag)]
-fn boxed(alloc: Global, plan: Plan, k: &mut u32, a: &Expr) -> Result<Box<Expr>, NoMemory>
+fn boxed(alloc: Global, plan: Plan, k: &mut u32, a: &Expr) -> Result<held::ExprBox, NoMemory>
     ensures { IfOk result (λ e. Tags plan.max k.old k.new (tagged.tag plan.max (hooks_seen plan.hooks) (bare (view a.now))) (bare (view e.value))) }
 {
     let a = expr(alloc, plan, k, a)?;
-    make::boxed(alloc, a)
+    Ok(a.boxed(alloc)?)
 }
 
 /// The arguments of a site's call, with the token behind them.
@@ -298,23 +331,23 @@ fn site_arguments(
     k: &mut u32,
     at: At,
     xs: &Items<Expr>,
-) -> Result<Items<Expr>, NoMemory>
+) -> Result<held::Exprs, NoMemory>
     ensures { IfOk result (λ ys. Tags plan.max k.old k.new (arguments_tagging plan.max (exprs_tagging plan.max (hooks_seen plan.hooks) xs.now)) (bare_exprs (exprs_of ys))) }
 {
     let token = token(alloc, at, *k)?;
     *k = next_token(plan.max, *k);
     let xs = exprs(alloc, plan, k, xs)?;
-    with_last(xs, token)
+    with_last(xs, token.open())
 }
 
 #[cycle(tag)]
-fn exprs(alloc: Global, plan: Plan, k: &mut u32, xs: &Items<Expr>) -> Result<Items<Expr>, NoMemory>
+fn exprs(alloc: Global, plan: Plan, k: &mut u32, xs: &Items<Expr>) -> Result<held::Exprs, NoMemory>
     ensures { IfOk result (λ ys. Tags plan.max k.old k.new (exprs_tagging plan.max (hooks_seen plan.hooks) xs.now) (bare_exprs (exprs_of ys))) }
 {
-    let mut ys = Items::new(alloc);
+    let mut ys = held::Exprs::new(alloc);
     for x in xs.as_slice() {
         let y = expr(alloc, plan, k, x)?;
-        ys.push(y)?;
+        ys.push(y.open())?;
     }
     Ok(ys)
 }
@@ -331,25 +364,30 @@ fn maybe(
     match a {
         Some(a) => {
             let a = boxed(alloc, plan, k, a)?;
-            Ok(Some(a))
+            Ok(Some(a.open()))
         }
         None => Ok(None),
     }
 }
 
 #[cycle(tag)]
-fn type_name(alloc: Global, plan: Plan, k: &mut u32, t: &TypeName) -> Result<TypeName, NoMemory>
+fn type_name(
+    alloc: Global,
+    plan: Plan,
+    k: &mut u32,
+    t: &TypeName,
+) -> Result<held::TypeName, NoMemory>
     ensures { IfOk result (λ n. Tags {A = u.Specs × u.MaybeDeclarator} plan.max k.old k.new
         (two (λ x y. (x, y)) (specs_tagging plan.max (hooks_seen plan.hooks) t.now.specs) (tagged.tag_maybe_declarator plan.max (hooks_seen plan.hooks) (bare_maybe_declarator (boxed_declarator t.now.declarator))))
         (bare_specs (specs_of n.specs), bare_maybe_declarator (boxed_declarator n.declarator))) }
 {
     let specs = specs(alloc, plan, k, &t.specs)?;
     let declarator = maybe_declarator(alloc, plan, k, &t.declarator)?;
-    Ok(TypeName {
+    Ok(held::TypeName::new(TypeName {
         at: t.at,
-        specs,
+        specs: specs.open(),
         declarator,
-    })
+    }))
 }
 
 #[cycle(tag)]
@@ -358,10 +396,10 @@ pub fn specs(
     plan: Plan,
     k: &mut u32,
     xs: &Items<Spec>,
-) -> Result<Items<Spec>, NoMemory>
+) -> Result<held::Specs, NoMemory>
     ensures { IfOk result (λ ys. Tags plan.max k.old k.new (specs_tagging plan.max (hooks_seen plan.hooks) xs.now) (bare_specs (specs_of ys))) }
 {
-    let mut ys = Items::new(alloc);
+    let mut ys = held::Specs::new(alloc);
     for x in xs.as_slice() {
         let y = spec(alloc, plan, k, x)?;
         ys.push(y)?;
@@ -380,7 +418,7 @@ fn spec(alloc: Global, plan: Plan, k: &mut u32, s: &Spec) -> Result<Spec, NoMemo
             Ok(Spec::Typedef(n))
         }
         Spec::Attribute(a) => {
-            let a = a.copied(alloc)?;
+            let a = attribute(alloc, a)?;
             Ok(Spec::Attribute(a))
         }
         Spec::Record(r) => {
@@ -398,12 +436,13 @@ fn spec(alloc: Global, plan: Plan, k: &mut u32, s: &Spec) -> Result<Spec, NoMemo
 fn record(alloc: Global, plan: Plan, k: &mut u32, r: &Record) -> Result<Record, NoMemory>
     ensures { IfOk result (λ y. HeadsRecord plan.max (hooks_seen plan.hooks) k.old k.new r.now y) }
 {
+    let tag = maybe_bytes(alloc, &r.tag)?;
     match &r.fields {
         Some(fs) => {
             let fs = fields(alloc, plan, k, fs)?;
-            with_fields(alloc, r, Some(fs))
+            Ok(with_fields(r, tag, Some(fs.open())))
         }
-        None => with_fields(alloc, r, None),
+        None => Ok(with_fields(r, tag, None)),
     }
 }
 
@@ -413,10 +452,10 @@ fn fields(
     plan: Plan,
     k: &mut u32,
     xs: &Items<Field>,
-) -> Result<Items<Field>, NoMemory>
+) -> Result<held::Fields, NoMemory>
     ensures { IfOk result (λ ys. Tags plan.max k.old k.new (fields_tagging plan.max (hooks_seen plan.hooks) xs.now) (bare_fields (fields_of ys))) }
 {
-    let mut ys = Items::new(alloc);
+    let mut ys = held::Fields::new(alloc);
     for x in xs.as_slice() {
         let y = field(alloc, plan, k, x)?;
         ys.push(y)?;
@@ -432,8 +471,8 @@ fn field(alloc: Global, plan: Plan, k: &mut u32, f: &Field) -> Result<Field, NoM
     let declarators = declarators(alloc, plan, k, &f.declarators)?;
     Ok(Field {
         at: f.at,
-        specs,
-        declarators,
+        specs: specs.open(),
+        declarators: declarators.open(),
     })
 }
 
@@ -443,13 +482,13 @@ fn declarators(
     plan: Plan,
     k: &mut u32,
     xs: &Items<Declarator>,
-) -> Result<Items<Declarator>, NoMemory>
+) -> Result<held::Declarators, NoMemory>
     ensures { IfOk result (λ ys. Tags plan.max k.old k.new (declarators_tagging plan.max (hooks_seen plan.hooks) xs.now) (bare_declarators (declarators_of ys))) }
 {
-    let mut ys = Items::new(alloc);
+    let mut ys = held::Declarators::new(alloc);
     for x in xs.as_slice() {
         let y = declarator(alloc, plan, k, x)?;
-        ys.push(y)?;
+        ys.push(y.open())?;
     }
     Ok(ys)
 }
@@ -479,7 +518,7 @@ fn maybe_list(
     match l {
         Some(l) => {
             let enumerators = enumerators(alloc, plan, k, &l.enumerators)?;
-            Ok(Some(make::enumerator_list(enumerators, l.has_comma)))
+            Ok(Some(make::enumerator_list(enumerators.open(), l.has_comma)))
         }
         None => Ok(None),
     }
@@ -491,10 +530,10 @@ fn enumerators(
     plan: Plan,
     k: &mut u32,
     xs: &Items<Enumerator>,
-) -> Result<Items<Enumerator>, NoMemory>
+) -> Result<held::Enumerators, NoMemory>
     ensures { IfOk result (λ ys. Tags plan.max k.old k.new (enumerators_tagging plan.max (hooks_seen plan.hooks) xs.now) (bare_enumerators (enumerators_of ys))) }
 {
-    let mut ys = Items::new(alloc);
+    let mut ys = held::Enumerators::new(alloc);
     for x in xs.as_slice() {
         let y = enumerator(alloc, plan, k, x)?;
         ys.push(y)?;
@@ -532,7 +571,7 @@ fn maybe_declarator(
     match d {
         Some(d) => {
             let d = inner(alloc, plan, k, d)?;
-            Ok(Some(d))
+            Ok(Some(d.open()))
         }
         None => Ok(None),
     }
@@ -544,32 +583,32 @@ pub fn declarator(
     plan: Plan,
     k: &mut u32,
     d: &Declarator,
-) -> Result<Declarator, NoMemory>
+) -> Result<held::Declarator, NoMemory>
     ensures { IfOk result (λ e. Tags plan.max k.old k.new (tagged.tag_declarator plan.max (hooks_seen plan.hooks) (bare_declarator (view_declarator d.now))) (bare_declarator (view_declarator e))) }
 {
     match d {
         Declarator::PointerTo(at, qs, d) => {
             let qs = qualifiers(alloc, qs)?;
             let d = inner(alloc, plan, k, d)?;
-            Ok(Declarator::PointerTo(*at, qs, d))
+            Ok(held::Declarator::new(Declarator::PointerTo(*at, qs, d.open())))
         }
         Declarator::Declared(at, n) => {
             let n = maybe_bytes(alloc, n)?;
-            Ok(Declarator::Declared(*at, n))
+            Ok(held::Declarator::new(Declarator::Declared(*at, n)))
         }
         Declarator::Group(at, d) => {
             let d = inner(alloc, plan, k, d)?;
-            Ok(Declarator::Group(*at, d))
+            Ok(held::Declarator::new(Declarator::Group(*at, d.open())))
         }
         Declarator::ArrayOf(at, d, n) => {
             let d = inner(alloc, plan, k, d)?;
             let n = maybe(alloc, plan, k, n)?;
-            Ok(Declarator::ArrayOf(*at, d, n))
+            Ok(held::Declarator::new(Declarator::ArrayOf(*at, d.open(), n)))
         }
         Declarator::FunctionOf(at, d, ps) => {
             let d = declarator(alloc, plan, k, d)?;
             let ps = params(alloc, plan, k, ps)?;
-            make::function_of(alloc, *at, d, ps)
+            made::function_of(alloc, *at, d, ps)
         }
     }
 }
@@ -581,11 +620,11 @@ fn inner(
     plan: Plan,
     k: &mut u32,
     d: &Declarator,
-) -> Result<Box<Declarator>, NoMemory>
+) -> Result<held::DeclaratorBox, NoMemory>
     ensures { IfOk result (λ e. Tags plan.max k.old k.new (tagged.tag_declarator plan.max (hooks_seen plan.hooks) (bare_declarator (view_declarator d.now))) (bare_declarator (view_declarator e.value))) }
 {
     let d = declarator(alloc, plan, k, d)?;
-    make::boxed(alloc, d)
+    Ok(d.boxed(alloc)?)
 }
 
 #[cycle(tag)]
@@ -594,10 +633,10 @@ fn params(
     plan: Plan,
     k: &mut u32,
     xs: &Items<Param>,
-) -> Result<Items<Param>, NoMemory>
+) -> Result<held::Params, NoMemory>
     ensures { IfOk result (λ ys. Tags plan.max k.old k.new (params_tagging plan.max (hooks_seen plan.hooks) xs.now) (bare_params (params_of ys))) }
 {
-    let mut ys = Items::new(alloc);
+    let mut ys = held::Params::new(alloc);
     for x in xs.as_slice() {
         let y = param(alloc, plan, k, x)?;
         ys.push(y)?;
@@ -613,7 +652,7 @@ fn param(alloc: Global, plan: Plan, k: &mut u32, p: &Param) -> Result<Param, NoM
     let declarator = maybe_declarator(alloc, plan, k, &p.declarator)?;
     Ok(Param {
         at: p.at,
-        specs,
+        specs: specs.open(),
         declarator,
     })
 }

@@ -13,6 +13,7 @@ use crate::prototypes::prototypes;
 use crate::site::Hooks;
 use crate::survey::{Each, Survey, survey_of};
 use crate::tag_unit::externals;
+use c_held as held;
 use c_tree::Unit;
 use std::alloc::Global;
 use tok_base::NoMemory;
@@ -44,7 +45,7 @@ impl Survey {
 /// The unit in which each site calls its entry point with its token, the k-th site with k modulo `max`, behind the
 /// prototypes of the entry points that are used. What is copied keeps its place; what is added to a call has the
 /// call's, and a prototype none.
-pub fn tagged_unit(alloc: Global, unit: &Unit, max: u32) -> Result<Unit, NoMemory>
+pub fn tagged_unit(alloc: Global, unit: &Unit, max: u32) -> Result<held::Unit, NoMemory>
     requires least { 1 ≤ max }
     requires greatest { max ≤ 65536 }
     ensures { IfOk result (λ v. bare_unit (view_unit v) ≡ tagged max (bare_unit (view_unit unit.now))) }
@@ -58,5 +59,7 @@ pub fn tagged_unit(alloc: Global, unit: &Unit, max: u32) -> Result<Unit, NoMemor
     let mut k = 0;
     let more = externals(alloc, plan, &mut k, &unit.items)?;
     items.append(more)?;
-    Ok(Unit { items })
+    Ok(held::Unit::new(Unit {
+        items: items.open(),
+    }))
 }

@@ -1,9 +1,10 @@
-use Rattle.std.proofs.Common.{◌∙◌, ap, refl, sym}
+use Rattle.std.proofs.Common.{◌∙◌, Some, ap, refl, sym}
 use Rattle.c_tree.specs.Tree as u
 use Rattle.c_tree.specs.Marked as m
-use Rattle.c_tree.specs.Bare.{bare, bare_declarator, bare_declarators, bare_enumerators, bare_exprs, bare_fields, bare_maybe_declarator, bare_params, bare_specs}
-use Rattle.c_tree.specs.View.{boxed_declarator, declarators_of, enumerators_of, exprs_of, fields_of, params_of, specs_of, view, view_assign, view_declarator, view_op, view_type_name}
+use Rattle.c_tree.specs.Bare.{bare, bare_body, bare_declarator, bare_declarators, bare_enumerators, bare_exprs, bare_fields, bare_maybe_declarator, bare_params, bare_specs}
+use Rattle.c_tree.specs.View.{body_of, boxed_declarator, declarators_of, enumerators_of, exprs_of, fields_of, params_of, specs_of, view, view_assign, view_declarator, view_op, view_type_name}
 use Rattle.c_tree.specs.declared.expression.EnumeratorList.{out-EnumeratorList}
+use Rattle.c_tree.specs.declared.expression.Record.{out-Record}
 use Rattle.c_tree.proofs.Views.{view_builtin, view_call, view_cast, view_function_of, view_sizeof_type}
 use Rattle.call_rewriter.specs.Plans.{callee_seen, hooks_seen}
 use Rattle.call_rewriter.specs.Tagger.{Tags, declarators_tagging, enumerators_tagging, exprs_tagging, fields_tagging, params_tagging, specs_tagging, put_declarator, put_enumerator, put_expr, put_field, put_param, put_spec}
@@ -18,9 +19,9 @@ pub exprs-loop-x-preserved : goal.exprs-loop-x-preserved
 exprs-loop-x-preserved t c =
     let max = c.args.plan.max in
     let h = hooks_seen c.args.plan.hooks in
-    rw c.in_ok-push.ensures.ok
+    rw c.in_ok-push.ensures.ok (rw c.open.ensures
     (goes_on (exprs_tagging max h) put_expr max c.args.k.now c.loop-x.k c.expr.new.k c.as_slice-x-items.result.now c.loop-x.ys c.loop-x.x-index c.x-item.result c.in_ok-y.y
-    c.loop-x-test.true (sym c.x-item.is) (λ rest. heads_two max c.loop-x.k c.expr.new.k u.expr (tagged.tag max h (bare (view c.x-item.result))) (exprs_tagging max h rest) (bare (view c.in_ok-y.y)) c.in_ok-y.ensures) c.loop-x.invariant)
+    c.loop-x-test.true (sym c.x-item.is) (λ rest. heads_two max c.loop-x.k c.expr.new.k u.expr (tagged.tag max h (bare (view c.x-item.result))) (exprs_tagging max h rest) (bare (view c.in_ok-y.y)) c.in_ok-y.ensures) c.loop-x.invariant))
 
 pub exprs-returns : goal.exprs-returns
 exprs-returns t c =
@@ -66,9 +67,9 @@ pub declarators-loop-x-preserved : goal.declarators-loop-x-preserved
 declarators-loop-x-preserved t c =
     let max = c.args.plan.max in
     let h = hooks_seen c.args.plan.hooks in
-    rw c.in_ok-push.ensures.ok
+    rw c.in_ok-push.ensures.ok (rw c.open.ensures
     (goes_on (declarators_tagging max h) put_declarator max c.args.k.now c.loop-x.k c.declarator.new.k c.as_slice-x-items.result.now c.loop-x.ys c.loop-x.x-index c.x-item.result c.in_ok-y.y
-    c.loop-x-test.true (sym c.x-item.is) (λ rest. heads_two max c.loop-x.k c.declarator.new.k u.declarator (tagged.tag_declarator max h (bare_declarator (view_declarator c.x-item.result))) (declarators_tagging max h rest) (bare_declarator (view_declarator c.in_ok-y.y)) c.in_ok-y.ensures) c.loop-x.invariant)
+    c.loop-x-test.true (sym c.x-item.is) (λ rest. heads_two max c.loop-x.k c.declarator.new.k u.declarator (tagged.tag_declarator max h (bare_declarator (view_declarator c.x-item.result))) (declarators_tagging max h rest) (bare_declarator (view_declarator c.in_ok-y.y)) c.in_ok-y.ensures) c.loop-x.invariant))
 
 pub declarators-returns : goal.declarators-returns
 declarators-returns t c =
@@ -182,18 +183,25 @@ expr-returns-in-Builtin t c =
     c.builtin.ensures
 
 pub comma-returns : goal.comma-returns
-comma-returns t c = tags_two c.args.plan.max _ _ _ u.Comma _ _ _ _ c.in_ok-a.ensures c.in_ok-b.ensures
+comma-returns t c =
+    rw c.new.ensures (rw c.open.ensures (rw c.open-2.ensures
+    (tags_two c.args.plan.max _ _ _ u.Comma _ _ _ _ c.in_ok-a.ensures c.in_ok-b.ensures)))
 
 pub assign-returns : goal.assign-returns
-assign-returns t c = tags_two c.args.plan.max _ _ _ (λ a b. u.Assign a (view_assign c.args.op) b) _ _ _ _ c.in_ok-a.ensures c.in_ok-b.ensures
+assign-returns t c =
+    rw c.new.ensures (rw c.open.ensures (rw c.open-2.ensures
+    (tags_two c.args.plan.max _ _ _ (λ a b. u.Assign a (view_assign c.args.op) b) _ _ _ _ c.in_ok-a.ensures c.in_ok-b.ensures)))
 
 pub binary-returns : goal.binary-returns
-binary-returns t c = tags_two c.args.plan.max _ _ _ (λ a b. u.Binary a (view_op c.args.op) b) _ _ _ _ c.in_ok-a.ensures c.in_ok-b.ensures
+binary-returns t c =
+    rw c.new.ensures (rw c.open.ensures (rw c.open-2.ensures
+    (tags_two c.args.plan.max _ _ _ (λ a b. u.Binary a (view_op c.args.op) b) _ _ _ _ c.in_ok-a.ensures c.in_ok-b.ensures)))
 
 pub conditional-returns : goal.conditional-returns
 conditional-returns t c =
-    tags_two {A = u.Expr → u.Expr} {B = u.Expr} {C = u.Expr} c.args.plan.max _ _ _ (λ g x. g x) _ _ _ _
-    (tags_two c.args.plan.max _ _ _ (λ a b x. u.Cond a b x) _ _ _ _ c.in_ok-c.ensures c.in_ok-a.ensures) c.in_ok-b.ensures
+    rw c.new.ensures (rw c.open.ensures (rw c.open-2.ensures (rw c.open-3.ensures
+    (tags_two {A = u.Expr → u.Expr} {B = u.Expr} {C = u.Expr} c.args.plan.max _ _ _ (λ g x. g x) _ _ _ _
+    (tags_two c.args.plan.max _ _ _ (λ a b x. u.Cond a b x) _ _ _ _ c.in_ok-c.ensures c.in_ok-a.ensures) c.in_ok-b.ensures))))
 
 pub cast-returns : goal.cast-returns
 cast-returns t c =
@@ -218,28 +226,33 @@ sizeof_type-returns t c =
     c.sizeof_type.ensures
 
 pub index-returns : goal.index-returns
-index-returns t c = tags_two c.args.plan.max _ _ _ u.Index _ _ _ _ c.in_ok-a.ensures c.in_ok-b.ensures
+index-returns t c =
+    rw c.new.ensures (rw c.open.ensures (rw c.open-2.ensures
+    (tags_two c.args.plan.max _ _ _ u.Index _ _ _ _ c.in_ok-a.ensures c.in_ok-b.ensures)))
 
 pub builtin-returns : goal.builtin-returns
 builtin-returns t c =
     let max = c.args.plan.max in
     let xs = c.args.xs.now in
-    tags_like max c.args.k.now c.exprs.new.k (one u.Builtin (exprs_tagging max tagged.no_hooks xs)) _ _ _ refl (ap bare c.builtin.ensures)
+    rw c.new.ensures
+    (tags_like max c.args.k.now c.exprs.new.k (one u.Builtin (exprs_tagging max tagged.no_hooks xs)) _ _ _ refl (ap bare (c.builtin.ensures ∙ ap (λ ys. m.Builtin c.args.at (exprs_of ys)) c.open.ensures))
     (tags_one max _ _ u.Builtin _ _
     (in_operand c.operand.result.max max (hooks_seen c.operand.result.hooks) tagged.no_hooks
     (λ m g. Tags m c.args.k.now c.exprs.new.k (exprs_tagging m g xs) (bare_exprs (exprs_of c.in_ok-xs.xs)))
-    c.operand.ensures.max c.operand.ensures.hooks c.in_ok-xs.ensures))
+    c.operand.ensures.max c.operand.ensures.hooks c.in_ok-xs.ensures)))
 
 pub maybe_list-returns-in_ok-enumerators-in-Some : goal.maybe_list-returns-in_ok-enumerators-in-Some
 maybe_list-returns-in_ok-enumerators-in-Some t c =
-    rw c.in-Some.is (rw (list_seen c.in-Some.l) (rw c.enumerator_list.ensures
-    (tags_one c.args.plan.max _ _ (λ es. u.list es (out-EnumeratorList c.in-Some.l).has_comma) _ _ c.in_ok-enumerators-in-Some.ensures)))
+    rw c.in-Some.is (rw (list_seen c.in-Some.l) (rw c.enumerator_list.ensures (rw c.open.ensures
+    (tags_one c.args.plan.max _ _ (λ es. u.list es (out-EnumeratorList c.in-Some.l).has_comma) _ _ c.in_ok-enumerators-in-Some.ensures))))
 
 pub record-returns-in_ok-fs-in-Some : goal.record-returns-in_ok-fs-in-Some
 record-returns-in_ok-fs-in-Some t c =
-    ok_to c.with_fields.result _ _
-    (λ y q. record_heads c.args.plan.max _ _ (hooks_seen c.args.plan.hooks) c.args.r.now y c.in-Some.fs c.in_ok-fs-in-Some.fs c.in-Some.is q c.in_ok-fs-in-Some.ensures)
-    c.with_fields.ensures
+    let r = out-Record c.args.r.now in
+    let gs = c.open.result in
+    record_heads c.args.plan.max _ _ (hooks_seen c.args.plan.hooks) c.args.r.now c.with_fields.result c.in-Some.fs gs c.in-Some.is
+    (λ ss. c.with_fields.ensures ss ∙ ap (λ t. u.Record r.is_union t (bare_body (body_of (Some gs))) ss) c.in_ok-tag.ensures)
+    (rw c.open.ensures c.in_ok-fs-in-Some.ensures)
 
 pub spec-returns-in_ok-r-in-Record : goal.spec-returns-in_ok-r-in-Record
 spec-returns-in_ok-r-in-Record t c = rw c.in-Record.is c.in_ok-r-in-Record.ensures

@@ -1,5 +1,6 @@
 use Rattle.std.proofs.Common.{◌∙◌, ap, refl, sym}
 use Rattle.c_tree.specs.Tree as u
+use Rattle.c_tree.specs.Marked as m
 use Rattle.c_tree.specs.Bare.{bare_init, bare_inits}
 use Rattle.c_tree.specs.View.{inits_of, view_init}
 use Rattle.c_tree.proofs.Views.{view_braces}
@@ -34,4 +35,4 @@ init-returns-in_ok-is-in-Braces t c =
     let comma = c.in-Braces.has_comma in
     tags_like max c.args.k.now c.inits.new.k (one (λ is. u.Braces is comma) (inits_tagging max h is)) _ _ _
     (ap (λ i. tagged.tag_init max h (bare_init (view_init i))) c.in-Braces.is ∙ ap (λ i. tagged.tag_init max h (bare_init i)) (view_braces c.in-Braces.at is comma))
-    (ap bare_init c.braces.ensures) (tags_one max _ _ (λ is. u.Braces is comma) _ _ c.in_ok-is-in-Braces.ensures)
+    (ap bare_init (c.braces.ensures ∙ ap (λ ys. m.Braces c.in-Braces.at (inits_of ys) comma) c.open-in-Braces.ensures)) (tags_one max _ _ (λ is. u.Braces is comma) _ _ c.in_ok-is-in-Braces.ensures)

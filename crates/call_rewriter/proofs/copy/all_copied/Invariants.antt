@@ -1,5 +1,0 @@
-use Rattle.std.specs.Prelude.{◌≡◌, ◌++◌, drop}
-use Rattle.call_rewriter.proofs.copy.all_copied.Given as goal
-
-abbrev pub invariant-loop-x : goal.invariant-loop-x
-invariant-loop-x g l = l.copy ++ drop l.x-index l.x-items ≡ l.x-items

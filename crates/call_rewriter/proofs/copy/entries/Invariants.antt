@@ -1,0 +1,5 @@
+use Rattle.std.specs.Prelude.{◌≡◌, ◌++◌, drop}
+use Rattle.call_rewriter.proofs.copy.entries.Given as goal
+
+abbrev pub invariant-loop-x : goal.invariant-loop-x
+invariant-loop-x l = l.copy ++ drop l.x-index l.x-items ≡ l.x-items
