@@ -9,6 +9,7 @@ pub mod make;
 pub mod names;
 pub mod open;
 pub mod parts;
+pub mod place;
 pub mod specs_read;
 pub mod statements;
 pub mod step;
