@@ -14,6 +14,20 @@ use Rattle.c_stack.specs.declared.place.InitPlace.{InitPlace}
 use Rattle.c_stack.specs.declared.place.ExprPlace.{ExprPlace}
 use Rattle.c_stack.specs.declared.place.DeclaratorPlace.{DeclaratorPlace}
 use Rattle.c_stack.specs.declared.place.SpecsPlace.{SpecsPlace}
+use Rattle.c_stack.specs.declared.place.StmtFrame.{StmtFrame}
+use Rattle.c_stack.specs.declared.place.StmtFrame.TheVariants as fs
+use Rattle.c_stack.specs.declared.place.BodyFrame.{BodyFrame}
+use Rattle.c_stack.specs.declared.place.BodyFrame.TheVariants as fb
+use Rattle.c_stack.specs.declared.place.DeclarationFrame.{DeclarationFrame}
+use Rattle.c_stack.specs.declared.place.DeclarationFrame.TheVariants as fd
+use Rattle.c_stack.specs.declared.place.InitFrame.{InitFrame}
+use Rattle.c_stack.specs.declared.place.InitFrame.TheVariants as fi
+use Rattle.c_stack.specs.declared.place.ExprFrame.{ExprFrame}
+use Rattle.c_stack.specs.declared.place.ExprFrame.TheVariants as fe
+use Rattle.c_stack.specs.declared.place.DeclaratorFrame.{DeclaratorFrame}
+use Rattle.c_stack.specs.declared.place.DeclaratorFrame.TheVariants as fp
+use Rattle.c_stack.specs.declared.place.SpecsFrame.{SpecsFrame}
+use Rattle.c_stack.specs.declared.place.SpecsFrame.TheVariants as fk
 use Rattle.c_stack.specs.declared.inside.InStmt.{InStmt}
 use Rattle.c_stack.specs.declared.inside.InBody.{InBody}
 use Rattle.c_stack.specs.declared.inside.InBody.TheBlock as b
@@ -130,69 +144,114 @@ view_place w.Sizeof = r.sizeof_type
 
 abbrev mutual
   pub view_in_stmt : InStmt → r.InStmt
-  view_in_stmt (b.InStmt::Block x is k) = r.in_block (view_open x) (map shown_block_item is) (view_body_place k)
-  view_in_stmt (b.Then x a k) = r.in_then (view_open x) (shown a) (view_stmt_place k)
-  view_in_stmt (b.Else x a s k) = r.in_else (view_open x) (shown a) (shown_stmt s) (view_stmt_place k)
-  view_in_stmt (b.While x a k) = r.in_while (view_open x) (shown a) (view_stmt_place k)
-  view_in_stmt (b.Do x k) = r.in_do (view_open x) (view_stmt_place k)
-  view_in_stmt (b.InStmt::For x first a e k) = r.in_for (view_open x) (shown_first first) (shown_maybe a) (shown_maybe e) (view_stmt_place k)
+  view_in_stmt (b.InStmt::Block' x is at k) = r.in_block (view_open x) (map shown_block_item is) (view_in_body k)
+  view_in_stmt (b.Then' x a at k) = r.in_then (view_open x) (shown a) (view_in_stmt k)
+  view_in_stmt (b.Else' x a s at k) = r.in_else (view_open x) (shown a) (shown_stmt s) (view_in_stmt k)
+  view_in_stmt (b.While' x a at k) = r.in_while (view_open x) (shown a) (view_in_stmt k)
+  view_in_stmt (b.Do' x at k) = r.in_do (view_open x) (view_in_stmt k)
+  view_in_stmt (b.InStmt::For' x first a e at k) = r.in_for (view_open x) (shown_first first) (shown_maybe a) (shown_maybe e) (view_in_stmt k)
 
   pub view_in_body : InBody → r.InBody
   view_in_body (b.Definition deep x done ss d) = r.of_definition deep (view_open x) (map shown_external done) (shown_specs ss) (shown_declarator d)
-  view_in_body (b.InBody::Stmt k) = r.of_stmt (view_stmt_place k)
-  view_in_body (b.Never x k) = elim x [ ]
+  view_in_body (b.InBody::Stmt' at k) = r.of_stmt (view_in_stmt k)
+  view_in_body (b.Never' x at k) = elim x [ ]
 
   pub view_in_declaration : InDeclaration → r.InDeclaration
   view_in_declaration (b.External deep done) = r.of_external deep (map shown_external done)
-  view_in_declaration (b.InDeclaration::Block x is k) = r.of_block (view_open x) (map shown_block_item is) (view_body_place k)
-  view_in_declaration (b.InDeclaration::For x k) = r.of_for (view_open x) (view_stmt_place k)
+  view_in_declaration (b.InDeclaration::Block' x is at k) = r.of_block (view_open x) (map shown_block_item is) (view_in_body k)
+  view_in_declaration (b.InDeclaration::For' x at k) = r.of_for (view_open x) (view_in_stmt k)
 
   pub view_in_init : InInit → r.InInit
-  view_in_init (b.InInit::Item x q) = r.of_item (item_at x (view_declaration_place q))
-  view_in_init (b.Braces x is k) = r.in_braces (view_open x) (map shown_init is) (view_init_place k)
+  view_in_init (b.InInit::Item' x at q) = r.of_item (item_at x (view_in_declaration q))
+  view_in_init (b.Braces' x is at k) = r.in_braces (view_open x) (map shown_init is) (view_in_init k)
 
   pub view_in_expr : InExpr → r.InExpr
-  view_in_expr (b.Operand x y k) = r.in_operand (view_open x) (view_operand y) (view_expr_place k)
-  view_in_expr (b.Bracket x y k) = r.in_bracket (view_open x) (view_bracket y) (view_expr_place k)
-  view_in_expr (b.InExpr::Stmt x y k) = r.in_stmt (view_open x) (view_part y) (view_stmt_place k)
-  view_in_expr (b.Init k) = r.in_init (view_init_place k)
-  view_in_expr (b.Value x y z k) = r.in_value (view_open x) y (enum_at z (view_specs_place k))
-  view_in_expr (b.Array x y k) = r.in_array (view_open x) (shown_declarator y) (view_declarator_place k)
+  view_in_expr (b.Operand' x y at k) = r.in_operand (view_open x) (view_operand y) (view_in_expr k)
+  view_in_expr (b.Bracket' x y at k) = r.in_bracket (view_open x) (view_bracket y) (view_in_expr k)
+  view_in_expr (b.InExpr::Stmt' x y at k) = r.in_stmt (view_open x) (view_part y) (view_in_stmt k)
+  view_in_expr (b.Init' at k) = r.in_init (view_in_init k)
+  view_in_expr (b.Value' x y z at k) = r.in_value (view_open x) y (enum_at z (view_in_specs k))
+  view_in_expr (b.Array' x y at k) = r.in_array (view_open x) (shown_declarator y) (view_in_declarator k)
 
   pub view_in_declarator : InDeclarator → r.InDeclarator
-  view_in_declarator (b.Pointer x qs k) = r.in_pointer (view_open x) (shown_qualifiers qs) (view_declarator_place k)
-  view_in_declarator (b.Group x k) = r.in_group (view_open x) (view_declarator_place k)
-  view_in_declarator (b.InDeclarator::Item x q) = r.in_item (items_at x (view_declaration_place q))
-  view_in_declarator (b.InDeclarator::Field x y k ss ds) = r.in_field (view_open x) (record_at y (view_specs_place k)) (shown_specs ss) (map shown_declarator ds)
-  view_in_declarator (b.InDeclarator::Param x y k ss) = r.in_param (view_open x) (params_at y (view_declarator_place k)) (shown_specs ss)
-  view_in_declarator (b.InDeclarator::Type x y z k ss) = r.in_type (view_open x) (view_open y) (view_place z) (view_expr_place k) (shown_specs ss)
+  view_in_declarator (b.Pointer' x qs at k) = r.in_pointer (view_open x) (shown_qualifiers qs) (view_in_declarator k)
+  view_in_declarator (b.Group' x at k) = r.in_group (view_open x) (view_in_declarator k)
+  view_in_declarator (b.InDeclarator::Item' x at q) = r.in_item (items_at x (view_in_declaration q))
+  view_in_declarator (b.InDeclarator::Field' x y at k ss ds) = r.in_field (view_open x) (record_at y (view_in_specs k)) (shown_specs ss) (map shown_declarator ds)
+  view_in_declarator (b.InDeclarator::Param' x y at k ss) = r.in_param (view_open x) (params_at y (view_in_declarator k)) (shown_specs ss)
+  view_in_declarator (b.InDeclarator::Type' x y z at k ss) = r.in_type (view_open x) (view_open y) (view_place z) (view_in_expr k) (shown_specs ss)
 
   pub view_in_specs : InSpecs → r.InSpecs
-  view_in_specs (b.Declaration q) = r.of_declaration (view_declaration_place q)
-  view_in_specs (b.InSpecs::Field y k) = r.of_field (record_at y (view_specs_place k))
-  view_in_specs (b.InSpecs::Param y k) = r.of_param (params_at y (view_declarator_place k))
-  view_in_specs (b.InSpecs::Type x z k) = r.of_type (view_open x) (view_place z) (view_expr_place k)
+  view_in_specs (b.Declaration' at q) = r.of_declaration (view_in_declaration q)
+  view_in_specs (b.InSpecs::Field' y at k) = r.of_field (record_at y (view_in_specs k))
+  view_in_specs (b.InSpecs::Param' y at k) = r.of_param (params_at y (view_in_declarator k))
+  view_in_specs (b.InSpecs::Type' x z at k) = r.of_type (view_open x) (view_place z) (view_in_expr k)
 
-  pub view_stmt_place : StmtPlace → r.InStmt
-  view_stmt_place (b.struct-StmtPlace' at k) = view_in_stmt k
+-- ---- places, and their frames
 
-  pub view_body_place : BodyPlace → r.InBody
-  view_body_place (b.struct-BodyPlace' at k) = view_in_body k
+abbrev pub view_stmt_place : StmtPlace → r.InStmt
+view_stmt_place k = view_in_stmt k.place.value
 
-  pub view_declaration_place : DeclarationPlace → r.InDeclaration
-  view_declaration_place (b.struct-DeclarationPlace' at k) = view_in_declaration k
+abbrev pub view_body_place : BodyPlace → r.InBody
+view_body_place k = view_in_body k.place.value
 
-  pub view_init_place : InitPlace → r.InInit
-  view_init_place (b.struct-InitPlace' at k) = view_in_init k
+abbrev pub view_declaration_place : DeclarationPlace → r.InDeclaration
+view_declaration_place k = view_in_declaration k.place.value
 
-  pub view_expr_place : ExprPlace → r.InExpr
-  view_expr_place (b.struct-ExprPlace' at k) = view_in_expr k
+abbrev pub view_init_place : InitPlace → r.InInit
+view_init_place k = view_in_init k.place.value
 
-  pub view_declarator_place : DeclaratorPlace → r.InDeclarator
-  view_declarator_place (b.struct-DeclaratorPlace' at k) = view_in_declarator k
+abbrev pub view_expr_place : ExprPlace → r.InExpr
+view_expr_place k = view_in_expr k.place.value
 
-  pub view_specs_place : SpecsPlace → r.InSpecs
-  view_specs_place (b.struct-SpecsPlace' at k) = view_in_specs k
+abbrev pub view_declarator_place : DeclaratorPlace → r.InDeclarator
+view_declarator_place k = view_in_declarator k.place.value
+
+abbrev pub view_specs_place : SpecsPlace → r.InSpecs
+view_specs_place k = view_in_specs k.place.value
+
+abbrev pub view_stmt_frame : StmtFrame → r.InStmt
+view_stmt_frame (fs.Block x is k) = r.in_block (view_open x) (map shown_block_item is) (view_body_place k)
+view_stmt_frame (fs.Then x a k) = r.in_then (view_open x) (shown a) (view_stmt_place k)
+view_stmt_frame (fs.Else x a s k) = r.in_else (view_open x) (shown a) (shown_stmt s) (view_stmt_place k)
+view_stmt_frame (fs.While x a k) = r.in_while (view_open x) (shown a) (view_stmt_place k)
+view_stmt_frame (fs.Do x k) = r.in_do (view_open x) (view_stmt_place k)
+view_stmt_frame (fs.For x first a e k) = r.in_for (view_open x) (shown_first first) (shown_maybe a) (shown_maybe e) (view_stmt_place k)
+
+abbrev pub view_body_frame : BodyFrame → r.InBody
+view_body_frame (fb.Definition deep x done ss d) = r.of_definition deep (view_open x) (map shown_external done) (shown_specs ss) (shown_declarator d)
+view_body_frame (fb.Stmt k) = r.of_stmt (view_stmt_place k)
+
+abbrev pub view_declaration_frame : DeclarationFrame → r.InDeclaration
+view_declaration_frame (fd.External deep done) = r.of_external deep (map shown_external done)
+view_declaration_frame (fd.Block x is k) = r.of_block (view_open x) (map shown_block_item is) (view_body_place k)
+view_declaration_frame (fd.For x k) = r.of_for (view_open x) (view_stmt_place k)
+
+abbrev pub view_init_frame : InitFrame → r.InInit
+view_init_frame (fi.Item x q) = r.of_item (item_at x (view_declaration_place q))
+view_init_frame (fi.Braces x is k) = r.in_braces (view_open x) (map shown_init is) (view_init_place k)
+
+abbrev pub view_expr_frame : ExprFrame → r.InExpr
+view_expr_frame (fe.Operand x y k) = r.in_operand (view_open x) (view_operand y) (view_expr_place k)
+view_expr_frame (fe.Bracket x y k) = r.in_bracket (view_open x) (view_bracket y) (view_expr_place k)
+view_expr_frame (fe.Stmt x y k) = r.in_stmt (view_open x) (view_part y) (view_stmt_place k)
+view_expr_frame (fe.Init k) = r.in_init (view_init_place k)
+view_expr_frame (fe.Value x y z k) = r.in_value (view_open x) y (enum_at z (view_specs_place k))
+view_expr_frame (fe.Array x y k) = r.in_array (view_open x) (shown_declarator y) (view_declarator_place k)
+
+abbrev pub view_declarator_frame : DeclaratorFrame → r.InDeclarator
+view_declarator_frame (fp.Pointer x qs k) = r.in_pointer (view_open x) (shown_qualifiers qs) (view_declarator_place k)
+view_declarator_frame (fp.Group x k) = r.in_group (view_open x) (view_declarator_place k)
+view_declarator_frame (fp.Item x q) = r.in_item (items_at x (view_declaration_place q))
+view_declarator_frame (fp.Field x y k ss ds) = r.in_field (view_open x) (record_at y (view_specs_place k)) (shown_specs ss) (map shown_declarator ds)
+view_declarator_frame (fp.Param x y k ss) = r.in_param (view_open x) (params_at y (view_declarator_place k)) (shown_specs ss)
+view_declarator_frame (fp.Type x y z k ss) = r.in_type (view_open x) (view_open y) (view_place z) (view_expr_place k) (shown_specs ss)
+
+abbrev pub view_specs_frame : SpecsFrame → r.InSpecs
+view_specs_frame (fk.Declaration q) = r.of_declaration (view_declaration_place q)
+view_specs_frame (fk.Field y k) = r.of_field (record_at y (view_specs_place k))
+view_specs_frame (fk.Param y k) = r.of_param (params_at y (view_declarator_place k))
+view_specs_frame (fk.Type x z k) = r.of_type (view_open x) (view_place z) (view_expr_place k)
 
 abbrev pub view_in_items : InItems → r.InItems
 view_in_items x = items_at x.read (view_declaration_place x.place)

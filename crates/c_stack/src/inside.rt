@@ -57,12 +57,12 @@ pub struct ItemHead {
 #[derive(Drop)]
 pub enum InStmt {
     /// In braces, behind these items.
-    Block(Open, BlockItems, BodyPlace),
-    Then(Open, Expr, StmtPlace),
-    Else(Open, Expr, Stmt, StmtPlace),
-    While(Open, Expr, StmtPlace),
-    Do(Open, StmtPlace),
-    For(Open, ForFirst, Option<Expr>, Option<Expr>, StmtPlace),
+    Block(Open, BlockItems, Box<InBody>),
+    Then(Open, Expr, Box<InStmt>),
+    Else(Open, Expr, Stmt, Box<InStmt>),
+    While(Open, Expr, Box<InStmt>),
+    Do(Open, Box<InStmt>),
+    For(Open, ForFirst, Option<Expr>, Option<Expr>, Box<InStmt>),
 }
 
 /// Where the braces of a block stand: behind a function's declarator, or as a statement. The number is the
@@ -71,10 +71,10 @@ pub enum InStmt {
 #[derive(Drop)]
 pub enum InBody {
     Definition(u32, Open, Externals, Specs, Declarator),
-    Stmt(StmtPlace),
+    Stmt(Box<InStmt>),
     /// No value has it: the grammar has no statement in an expression. It makes the types of the stack one
     /// cycle, whose parts the checker then lays out once.
-    Never(Infallible, ExprPlace),
+    Never(Infallible, Box<InExpr>),
 }
 
 /// Where a declaration is still to come.
@@ -82,16 +82,16 @@ pub enum InBody {
 #[derive(Drop)]
 pub enum InDeclaration {
     External(u32, Externals),
-    Block(Open, BlockItems, BodyPlace),
-    For(Open, StmtPlace),
+    Block(Open, BlockItems, Box<InBody>),
+    For(Open, Box<InStmt>),
 }
 
 /// Where an initialiser is still to come.
 #[cycle(inside)]
 #[derive(Drop)]
 pub enum InInit {
-    Item(ItemHead, DeclarationPlace),
-    Braces(Open, Inits, InitPlace),
+    Item(ItemHead, Box<InDeclaration>),
+    Braces(Open, Inits, Box<InInit>),
 }
 
 /// Where an item of a declaration is still to come.
@@ -207,37 +207,37 @@ pub struct ParamsRead {
 #[cycle(inside)]
 #[derive(Drop)]
 pub enum InExpr {
-    Operand(Open, Operand, ExprPlace),
-    Bracket(Open, Bracket, ExprPlace),
-    Stmt(Open, Part, StmtPlace),
-    Init(InitPlace),
+    Operand(Open, Operand, Box<InExpr>),
+    Bracket(Open, Bracket, Box<InExpr>),
+    Stmt(Open, Part, Box<InStmt>),
+    Init(Box<InInit>),
     /// The value of an enumerator.
-    Value(Open, Bytes, EnumRead, SpecsPlace),
+    Value(Open, Bytes, EnumRead, Box<InSpecs>),
     /// The length of an array.
-    Array(Open, Declarator, DeclaratorPlace),
+    Array(Open, Declarator, Box<InDeclarator>),
 }
 
 /// Where a declarator is still to come.
 #[cycle(inside)]
 #[derive(Drop)]
 pub enum InDeclarator {
-    Pointer(Open, Items<Qualifier>, DeclaratorPlace),
-    Group(Open, DeclaratorPlace),
-    Item(ItemsRead, DeclarationPlace),
-    Field(Open, RecordRead, SpecsPlace, Specs, Declarators),
-    Param(Open, ParamsRead, DeclaratorPlace, Specs),
+    Pointer(Open, Items<Qualifier>, Box<InDeclarator>),
+    Group(Open, Box<InDeclarator>),
+    Item(ItemsRead, Box<InDeclaration>),
+    Field(Open, RecordRead, Box<InSpecs>, Specs, Declarators),
+    Param(Open, ParamsRead, Box<InDeclarator>, Specs),
     /// In a type name; the outer node is the cast or the `sizeof`.
-    Type(Open, Open, TypePlace, ExprPlace, Specs),
+    Type(Open, Open, TypePlace, Box<InExpr>, Specs),
 }
 
 /// Where specifiers are still to come.
 #[cycle(inside)]
 #[derive(Drop)]
 pub enum InSpecs {
-    Declaration(DeclarationPlace),
-    Field(RecordRead, SpecsPlace),
-    Param(ParamsRead, DeclaratorPlace),
-    Type(Open, TypePlace, ExprPlace),
+    Declaration(Box<InDeclaration>),
+    Field(RecordRead, Box<InSpecs>),
+    Param(ParamsRead, Box<InDeclarator>),
+    Type(Open, TypePlace, Box<InExpr>),
 }
 
 /// Where a field of a record is still to come.

@@ -6,8 +6,9 @@ ghost use Rattle.c_tree.specs.Marked as marked;
 ghost use Rattle.c_tree.specs.View.{view_assign, view_op, view_prefix, view_step};
 ghost use Rattle.c_stack.specs.Shown.{shown, shown_maybe, shown_maybe_declarator, shown_specs, shown_type};
 
+use crate::raw;
 use c_held::{DeclaratorBox, Expr, Exprs, Specs, TypeName};
-use c_tree::{AssignOp, At, BinaryOp, PrefixOp, Step, make};
+use c_tree::{AssignOp, At, BinaryOp, PrefixOp, Step};
 use std::alloc::{AllocError, Global};
 use tok_base::{Bytes, Items, NoMemory, Span};
 
@@ -178,33 +179,31 @@ pub fn call(alloc: Global, at: At, f: Expr, args: Exprs) -> Result<Expr, AllocEr
     ensures { IfOk result (λ e. shown e ≡ marked.Call at (shown f) (reader.exprs_of (map shown args))) }
 {
     let f = f.boxed(alloc)?;
-    Ok(Expr::new(c_tree::Expr::Call(at, f.open(), args.open())))
+    Ok(Expr::new(raw::call(at, f.open(), args.open())))
 }
 
 /// `__builtin_infer_alloc_token(args)`
 pub fn builtin(at: At, args: Exprs) -> Expr
     ensures { shown result ≡ marked.Builtin at (reader.exprs_of (map shown args)) }
 {
-    Expr::new(make::builtin(at, args.open()))
+    Expr::new(raw::builtin(at, args.open()))
 }
 
 /// `(ty) a`
-#[tactic(auto, unfolding(crate::specs::Shown::shown, crate::specs::Shown::shown_type))]
 pub fn cast(alloc: Global, at: At, ty: TypeName, a: Expr) -> Result<Expr, AllocError>
     ensures { IfOk result (λ e. shown e ≡ marked.Cast at (shown_type ty) (shown a)) }
 {
     let ty = ty.boxed(alloc)?;
     let a = a.boxed(alloc)?;
-    Ok(Expr::new(c_tree::Expr::Cast(at, ty.open(), a.open())))
+    Ok(Expr::new(raw::cast(at, ty.open(), a.open())))
 }
 
 /// `sizeof (ty)`
-#[tactic(auto, unfolding(crate::specs::Shown::shown, crate::specs::Shown::shown_type))]
 pub fn sizeof_type(alloc: Global, at: At, ty: TypeName) -> Result<Expr, AllocError>
     ensures { IfOk result (λ e. shown e ≡ marked.SizeofType at (shown_type ty)) }
 {
     let ty = ty.boxed(alloc)?;
-    Ok(Expr::new(c_tree::Expr::SizeofType(at, ty.open())))
+    Ok(Expr::new(raw::sizeof_type(at, ty.open())))
 }
 
 /// A type name.

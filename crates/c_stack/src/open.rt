@@ -126,7 +126,7 @@ impl InExpr {
             InExpr::Operand(o, ..) => *o,
             InExpr::Bracket(o, ..) => *o,
             InExpr::Stmt(o, ..) => *o,
-            InExpr::Init(k) => k.get().around(),
+            InExpr::Init(k) => k.around(),
             InExpr::Value(o, ..) => *o,
             InExpr::Array(o, ..) => *o,
         }
@@ -168,7 +168,7 @@ impl InSpecs {
         ensures { result ≡ reader.specs_level (view_in_specs self.now) }
     {
         match self {
-            InSpecs::Declaration(q) => q.get().level(),
+            InSpecs::Declaration(q) => q.level(),
             InSpecs::Field(f, _) => f.node.level,
             InSpecs::Param(p, _) => p.node.level,
             InSpecs::Type(o, ..) => o.level,

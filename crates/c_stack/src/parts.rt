@@ -6,6 +6,7 @@ ghost use Rattle.c_tree.specs.Marked as marked;
 ghost use Rattle.c_tree.specs.View.{view_keyword, view_qualifier};
 ghost use Rattle.c_stack.specs.Shown.{shown, shown_argument, shown_attribute, shown_declarator, shown_entry, shown_enumerator, shown_field, shown_maybe_declarator, shown_param, shown_qualifiers, shown_spec, shown_specs, shown_value};
 
+use crate::raw;
 use c_held::{
     Arguments, Attributes, Declarator, DeclaratorBox, Declarators, Entries, Enumerators, Expr,
     ExprBox, Fields, Params, Specs,
@@ -108,7 +109,7 @@ pub fn function_of(
     ensures { IfOk result (λ f. shown_declarator f ≡ marked.FunctionOf at (shown_declarator d) (reader.params_of (map shown_param params))) }
 {
     let d = d.boxed(alloc)?;
-    Ok(Declarator::new(c_tree::Declarator::FunctionOf(at, d.open(), params.open())))
+    Ok(Declarator::new(raw::function_of(at, d.open(), params.open())))
 }
 
 /// The declarators with one more.
@@ -208,7 +209,7 @@ pub fn record_tag(at: At, is_union: bool, tag: Bytes) -> Spec
 pub fn record(at: At, is_union: bool, tag: Option<Bytes>, fields: Fields) -> Spec
     ensures { shown_spec result ≡ reader.records at is_union tag (marked.body (reader.fields_of (map shown_field fields))) }
 {
-    make::record(at, is_union, tag, Some(fields.open()))
+    raw::record(at, is_union, tag, fields.open())
 }
 
 /// `enum tag`
@@ -222,19 +223,14 @@ pub fn enum_tag(at: At, tag: Bytes) -> Spec
 pub fn enumeration(at: At, tag: Option<Bytes>, list: Enumerators, has_comma: bool) -> Spec
     ensures { shown_spec result ≡ reader.enums at tag (marked.list (reader.enumerators_of (map shown_enumerator list)) has_comma) }
 {
-    make::enumeration(at, tag, Some(make::enumerator_list(list.open(), has_comma)))
+    raw::enumeration(at, tag, list.open(), has_comma)
 }
 
 /// A field of a record.
-#[tactic(auto, unfolding(crate::specs::Shown::shown_field, crate::specs::Shown::shown_specs))]
 pub fn field(at: At, specs: Specs, declarators: Declarators) -> Field
     ensures { shown_field result ≡ record { at = at; specs = shown_specs specs; declarators = reader.declarators_of (map shown_declarator declarators) } }
 {
-    Field {
-        at,
-        specs: specs.open(),
-        declarators: declarators.open(),
-    }
+    raw::field(at, specs.open(), declarators.open())
 }
 
 /// The fields with one more.
@@ -319,7 +315,6 @@ pub fn with_plain_entry(entries: Entries, name: Bytes) -> Result<Entries, AllocE
 }
 
 /// The entries with one more, which has these arguments.
-#[tactic(auto, unfolding(crate::specs::Shown::shown_entry, crate::specs::Shown::shown_argument))]
 pub fn with_entry(
     entries: Entries,
     name: Bytes,
@@ -327,10 +322,7 @@ pub fn with_entry(
 ) -> Result<Entries, AllocError>
     ensures { IfOk result (λ es. map shown_entry es ≡ map shown_entry entries ++ record { name = name; arguments = Some (map shown_argument arguments) } ∷ []) }
 {
-    entries.with(Entry {
-        name,
-        arguments: Some(arguments.open()),
-    })
+    entries.with(raw::entry(name, arguments.open()))
 }
 
 /// An attribute with these entries.

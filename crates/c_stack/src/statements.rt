@@ -5,11 +5,12 @@ ghost use Rattle.c_reader.specs.MarkedParts as reader;
 ghost use Rattle.c_tree.specs.Marked as marked;
 ghost use Rattle.c_stack.specs.Shown.{shown, shown_attribute, shown_block_item, shown_declaration, shown_declarator, shown_external, shown_first, shown_init, shown_item, shown_maybe, shown_maybe_init, shown_specs, shown_stmt};
 
+use crate::raw;
 use c_held::{
     Attributes, BlockItems, Declarator, DeclaredItems, Expr, Externals, ForFirst, Init, Inits,
     Specs, Stmt,
 };
-use c_tree::{At, Block, BlockItem, Declaration, Definition, External, Item, make};
+use c_tree::{At, BlockItem, Declaration, External, Item};
 use std::alloc::{AllocError, Global};
 use tok_base::Items;
 
@@ -27,7 +28,7 @@ pub fn plain_init(a: Expr) -> Init
 pub fn braces(at: At, list: Inits, has_comma: bool) -> Init
     ensures { shown_init result ≡ marked.Braces at (reader.inits_of (map shown_init list)) has_comma }
 {
-    Init::new(make::braces(at, list.open(), has_comma))
+    Init::new(raw::braces(at, list.open(), has_comma))
 }
 
 /// The initialisers with one more.
@@ -105,7 +106,7 @@ fn opened(a: Option<Expr>) -> Option<c_tree::Expr>
 pub fn block(at: At, items: BlockItems) -> Stmt
     ensures { shown_stmt result ≡ marked.Block at (reader.items_of (map shown_block_item items)) }
 {
-    Stmt::new(make::block(at, items.open()))
+    Stmt::new(raw::block(at, items.open()))
 }
 
 /// A declaration as an item of a block.
@@ -262,16 +263,7 @@ pub fn defines(
 ) -> External
     ensures { shown_external result ≡ marked.Definition at (shown_specs specs) (shown_declarator declarator) body_at (reader.items_of (map shown_block_item items)) }
 {
-    let body = Block {
-        at: body_at,
-        items: items.open(),
-    };
-    External::Definition(Definition {
-        at,
-        specs: specs.open(),
-        declarator: declarator.open(),
-        body,
-    })
+    raw::defines(at, specs.open(), declarator.open(), body_at, items.open())
 }
 
 /// The external declarations with one more.
