@@ -11,9 +11,9 @@ ghost use Rattle.c_stack.specs.Views.{view_declarator_mode, view_in_params, view
 
 use c_held::Externals;
 use c_stack::inside::{DeclaratorMode, InParams, Mode, Next, SpecsMode};
-use c_stack::place::{DeclarationFrame, DeclarationPlace, SpecsFrame, SpecsPlace};
 use c_stack::names::Names;
 use c_stack::numbers::refuse;
+use c_stack::place::{DeclarationFrame, DeclarationPlace, SpecsFrame, SpecsPlace};
 use c_stack::step::StepEnd;
 use c_stack::symbol::{Symbol, symbol_of};
 use read_begin::first_spec;

@@ -15,14 +15,16 @@ ghost use Rattle.c_stack.specs.Shown.{shown};
 ghost use Rattle.c_stack.specs.Views.{view_expr_place, view_specs_place, view_specs_read};
 
 use c_held::Expr;
-use c_stack::inside::{AttributeMode, ExprMode, Had, InAttribute, Mode, Next, Open, Operand, SpecsMode, SpecsRead};
-use c_stack::place::{ExprFrame, ExprPlace, SpecsPlace};
-use c_tree::{BinaryOp, Keyword, PrefixOp, Step};
+use c_stack::inside::{
+    AttributeMode, ExprMode, Had, InAttribute, Mode, Next, Open, Operand, SpecsMode, SpecsRead,
+};
 use c_stack::make::{character, mark, name, number};
 use c_stack::names::Names;
 use c_stack::parts::typedef_name;
+use c_stack::place::{ExprFrame, ExprPlace, SpecsPlace};
 use c_stack::step::{StepEnd, following};
 use c_stack::symbol::{Negation, Operator, Symbol, Tagged};
+use c_tree::{BinaryOp, Keyword, PrefixOp, Step};
 use std::alloc::{AllocError, Global};
 use tok_base::{Bytes, Items, Span};
 
@@ -231,13 +233,7 @@ fn want_name(
     }
 }
 
-fn want_number(
-    alloc: Global,
-    id: u32,
-    k: ExprPlace,
-    x: &[u8],
-    span: Span,
-) -> Result<Next, StepEnd>
+fn want_number(alloc: Global, id: u32, k: ExprPlace, x: &[u8], span: Span) -> Result<Next, StepEnd>
     ensures { (env : Env) → Gives env result (reader.go_on (suc id) env (reader.expr (reader.after_expr (parts.leaf span.start) (view_expr_place k) (marked.Number (parts.mark span.start span.end id) x.now)))) }
 {
     let a = number(alloc, mark(span.start, span.end, id), x)?;

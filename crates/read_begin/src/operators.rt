@@ -10,10 +10,10 @@ ghost use Rattle.c_stack.specs.declared.step.StepEnd.TheVariants.{NoMemory};
 
 use c_held::Expr;
 use c_stack::inside::{Had, Open, Operand};
-use c_stack::place::{ExprFrame, ExprPlace};
-use c_tree::At;
 use c_stack::make::{assign, binary, cast, comma, conditional, mark, prefix, sizeof_expr};
+use c_stack::place::{ExprFrame, ExprPlace};
 use c_stack::step::{StepEnd, following};
+use c_tree::At;
 use std::alloc::{AllocError, Global};
 
 /// An expression, where it stands, and the number of the next node.

@@ -13,9 +13,9 @@ ghost use Rattle.c_stack.specs.Views.{view_condition, view_open, view_part, view
 
 use c_held::{Expr, ForFirst, Stmt};
 use c_stack::inside::{Condition, Next, Open, Part, StmtMode, Unended};
-use c_stack::place::{StmtFrame, StmtPlace};
-use c_stack::numbers::{ending, refuse};
 use c_stack::make::{mark, some_expr};
+use c_stack::numbers::{ending, refuse};
+use c_stack::place::{StmtFrame, StmtPlace};
 use c_stack::statements::{first_expr, plain, return_};
 use c_stack::step::StepEnd;
 use c_stack::symbol::Symbol;
@@ -30,27 +30,13 @@ fn is_stmt(id: u32, o: Open, d: u32, k: StmtPlace, s: Stmt) -> Result<Next, Step
     Ok(Next::at_stmt(next, StmtMode::AfterStmt(deep, k, s)))
 }
 
-fn plain_done(
-    id: u32,
-    o: Open,
-    d: u32,
-    k: StmtPlace,
-    a: Expr,
-    span: Span,
-) -> Result<Next, StepEnd>
+fn plain_done(id: u32, o: Open, d: u32, k: StmtPlace, a: Expr, span: Span) -> Result<Next, StepEnd>
     ensures { (env : Env) → Gives env result (machine.part_semi id env (view_open o) d reader.plain (view_stmt_place k) (shown a) span) }
 {
     is_stmt(id, o, d, k, plain(mark(o.from, span.end, id), a))
 }
 
-fn return_done(
-    id: u32,
-    o: Open,
-    d: u32,
-    k: StmtPlace,
-    a: Expr,
-    span: Span,
-) -> Result<Next, StepEnd>
+fn return_done(id: u32, o: Open, d: u32, k: StmtPlace, a: Expr, span: Span) -> Result<Next, StepEnd>
     ensures { (env : Env) → Gives env result (machine.part_semi id env (view_open o) d reader.returned (view_stmt_place k) (shown a) span) }
 {
     is_stmt(

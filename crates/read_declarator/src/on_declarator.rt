@@ -17,13 +17,15 @@ ghost use Rattle.c_stack.specs.Views.{view_declarator_place, view_had, view_open
 
 use c_held::{Declarator, Params};
 use c_stack::inside::{DeclaratorMode, Had, Next, Open, ParamsRead};
-use c_stack::place::{DeclaratorFrame, DeclaratorPlace, ExprFrame, ExprPlace, SpecsFrame, SpecsPlace};
-use c_tree::{Keyword, Qualifier};
 use c_stack::make::mark;
 use c_stack::names::Names;
 use c_stack::parts::{function_of, open_array, with_qualifier};
+use c_stack::place::{
+    DeclaratorFrame, DeclaratorPlace, ExprFrame, ExprPlace, SpecsFrame, SpecsPlace,
+};
 use c_stack::step::{StepEnd, following};
 use c_stack::symbol::Symbol;
+use c_tree::{Keyword, Qualifier};
 use read_begin::{begin_specs, begins_specs, first_spec, want};
 use read_end::{absent_name, declarator_begin, end_declarator, may_be_nameless};
 use std::alloc::Global;

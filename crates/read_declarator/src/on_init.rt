@@ -14,9 +14,9 @@ ghost use Rattle.c_stack.specs.declared.step.StepEnd.TheVariants.{NoMemory};
 
 use c_held::Inits;
 use c_stack::inside::{Mode, Next, Open};
-use c_stack::place::{ExprFrame, ExprPlace, InitFrame, InitPlace};
 use c_stack::make::mark;
 use c_stack::names::Names;
+use c_stack::place::{ExprFrame, ExprPlace, InitFrame, InitPlace};
 use c_stack::statements::braces;
 use c_stack::step::{StepEnd, following};
 use c_stack::symbol::Symbol;
@@ -25,13 +25,7 @@ use std::alloc::Global;
 use tok_base::Span;
 
 /// The right brace behind a list and its comma.
-fn braces_done(
-    id: u32,
-    o: Open,
-    list: Inits,
-    k: InitPlace,
-    span: Span,
-) -> Result<Next, StepEnd>
+fn braces_done(id: u32, o: Open, list: Inits, k: InitPlace, span: Span) -> Result<Next, StepEnd>
     ensures { (env : Env) → Gives env result (reader.close_braces id env (inside.in_braces (view_open o) (map shown_init list) (view_init_place k)) span) }
 {
     if list.is_empty() {

@@ -13,14 +13,14 @@ ghost use Rattle.c_stack.specs.Gives.{Gives};
 ghost use Rattle.c_stack.specs.Seen.{view_operator, view_symbol};
 ghost use Rattle.c_stack.specs.Views.{view_declarator_place};
 
-use c_stack::inside::{DeclaratorMode, Had, Next, Open};
-use c_stack::place::DeclaratorPlace;
-use c_tree::BinaryOp;
 use crate::declarator::{absent_name, may_be_named, may_be_nameless, nameless_next};
+use c_stack::inside::{DeclaratorMode, Had, Next, Open};
 use c_stack::make::mark;
 use c_stack::parts::{declared, no_qualifiers};
+use c_stack::place::DeclaratorPlace;
 use c_stack::step::{StepEnd, following};
 use c_stack::symbol::{Operator, Symbol};
+use c_tree::BinaryOp;
 use std::alloc::Global;
 use tok_base::Span;
 

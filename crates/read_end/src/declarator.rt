@@ -10,18 +10,21 @@ ghost use Rattle.c_stack.specs.Shown.{shown_declarator, shown_maybe_declarator, 
 ghost use Rattle.c_stack.specs.Views.{record_at, view_declarator_place, view_expr_place, view_had, view_in_declarator, view_in_fields, view_in_items, view_in_params, view_open, view_place, view_specs_place};
 ghost use Rattle.c_stack.specs.declared.step.StepEnd.TheVariants.{NoMemory};
 
-use c_held::{Declarator, DeclaratorBox, Declarators, Specs, TypeName};
-use c_stack::inside::{DeclaratorMode, ExprMode, Had, InDeclarator, InFields, InItems, InParams, Next, Open, Operand, ParamsRead, RecordRead, SpecsMode, TypePlace};
-use c_stack::place::{DeclaratorFrame, DeclaratorPlace, ExprFrame, ExprPlace, SpecsPlace};
-use c_tree::Qualifier;
 use crate::item::{close_item, items_done};
+use c_held::{Declarator, DeclaratorBox, Declarators, Specs, TypeName};
+use c_stack::inside::{
+    DeclaratorMode, ExprMode, Had, InDeclarator, InFields, InItems, InParams, Next, Open, Operand,
+    ParamsRead, RecordRead, SpecsMode, TypePlace,
+};
 use c_stack::make::{mark, sizeof_type, type_name};
 use c_stack::parts::{
     field, function_of, group, nameless, no_declarator, param, pointer_to, some_declarator,
     with_declarator, with_field, with_param,
 };
+use c_stack::place::{DeclaratorFrame, DeclaratorPlace, ExprFrame, ExprPlace, SpecsPlace};
 use c_stack::step::{StepEnd, following};
 use c_stack::symbol::Symbol;
+use c_tree::Qualifier;
 use std::alloc::Global;
 use tok_base::{Items, Span};
 
@@ -113,7 +116,10 @@ fn field_next(
 {
     match y {
         Symbol::Comma => {
-            let place = DeclaratorPlace::new(alloc, DeclaratorFrame::Field(o, read, k, specs, declarators))?;
+            let place = DeclaratorPlace::new(
+                alloc,
+                DeclaratorFrame::Field(o, read, k, specs, declarators),
+            )?;
             Ok(Next::at_declarator(id, DeclaratorMode::WantDeclarator(place)))
         }
         Symbol::Semicolon => {

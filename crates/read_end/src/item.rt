@@ -15,17 +15,23 @@ ghost use Rattle.c_stack.specs.Views.{view_body_place, view_declaration_place, v
 ghost use Rattle.c_stack.specs.declared.step.StepEnd.TheVariants.{NoMemory};
 
 use c_held::{Attributes, BlockItems, Declarator, Externals, Init, Inits, Specs};
-use c_stack::inside::{AttributeMode, DeclaratorMode, Had, InAttribute, InItems, ItemHead, ItemRead, ItemsRead, Mode, Next, Open, StmtMode};
-use c_stack::place::{BodyFrame, BodyPlace, DeclarationFrame, DeclarationPlace, DeclaratorFrame, DeclaratorPlace, InitFrame, InitPlace, StmtFrame, StmtPlace};
-use c_tree::Declaration;
 use c_stack::declarator::{is_function, name_made};
+use c_stack::inside::{
+    AttributeMode, DeclaratorMode, Had, InAttribute, InItems, ItemHead, ItemRead, ItemsRead, Mode,
+    Next, Open, StmtMode,
+};
 use c_stack::make::mark;
+use c_stack::place::{
+    BodyFrame, BodyPlace, DeclarationFrame, DeclarationPlace, DeclaratorFrame, DeclaratorPlace,
+    InitFrame, InitPlace, StmtFrame, StmtPlace,
+};
 use c_stack::statements::{
     braces, declaration, declared_item, declares, first_declaration, item, no_init, some_init,
     with_block_item, with_external, with_init, with_item,
 };
 use c_stack::step::{StepEnd, following};
 use c_stack::symbol::{Operator, Symbol, is_equals};
+use c_tree::Declaration;
 use std::alloc::Global;
 use tok_base::Span;
 
@@ -427,4 +433,3 @@ pub fn init_next(
         }
     }
 }
-

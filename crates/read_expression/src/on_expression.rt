@@ -16,17 +16,19 @@ ghost use Rattle.c_stack.specs.Shown.{shown, shown_declarator};
 ghost use Rattle.c_stack.specs.Views.{view_bracket, view_callee, view_declarator_place, view_expr_mode, view_expr_place, view_had, view_in_enum, view_open, view_operand, view_place};
 
 use c_held::{Declarator, Expr, Exprs};
-use c_stack::inside::{Bracket, Callee, DeclaratorMode, ExprMode, Had, InEnum, Next, Open, Operand, TypePlace};
-use c_stack::place::{DeclaratorPlace, ExprFrame, ExprPlace, SpecsFrame, SpecsPlace};
-use c_tree::{At, Step};
+use c_stack::inside::{
+    Bracket, Callee, DeclaratorMode, ExprMode, Had, InEnum, Next, Open, Operand, TypePlace,
+};
 use c_stack::levels::{level, needs, tight};
 use c_stack::make::{arrow, builtin, call, dot, index, mark, paren, post, text, with_argument};
 use c_stack::names::Names;
 use c_stack::numbers::refuse;
 use c_stack::parts::{array_of, some_value};
+use c_stack::place::{DeclaratorPlace, ExprFrame, ExprPlace, SpecsFrame, SpecsPlace};
 use c_stack::statements::plain_init;
 use c_stack::step::{StepEnd, following};
 use c_stack::symbol::{Member, Operator, Symbol};
+use c_tree::{At, Step};
 use read_begin::{Reduced, begin_specs, begins_specs, close_part, reduce, want};
 use read_end::{add_enumerator, enumerator_end, init_next};
 use std::alloc::{AllocError, Global};

@@ -16,15 +16,19 @@ ghost use Rattle.c_stack.specs.Views.{view_declarator_place, view_in_enum, view_
 ghost use Rattle.c_stack.specs.declared.step.StepEnd.TheVariants.{NoMemory};
 
 use c_held::{Declarators, DeclaredItems, Enumerators, Fields};
-use c_stack::inside::{EnumRead, ExprMode, InEnum, InFields, ItemsRead, Next, Open, RecordRead, SpecsMode, SpecsRead};
-use c_stack::place::{DeclaratorFrame, DeclaratorPlace, ExprFrame, ExprPlace, SpecsFrame, SpecsPlace};
-use c_tree::{At, Spec};
+use c_stack::inside::{
+    EnumRead, ExprMode, InEnum, InFields, ItemsRead, Next, Open, RecordRead, SpecsMode, SpecsRead,
+};
 use c_stack::make::mark;
 use c_stack::names::Names;
 use c_stack::numbers::ending;
 use c_stack::parts::{all_specs, enum_tag, no_value, record, record_tag};
+use c_stack::place::{
+    DeclaratorFrame, DeclaratorPlace, ExprFrame, ExprPlace, SpecsFrame, SpecsPlace,
+};
 use c_stack::step::{StepEnd, following};
 use c_stack::symbol::{Operator, Symbol, Tagged, is_equals};
+use c_tree::{At, Spec};
 use read_begin::{begins_specs, first_spec, open_spec};
 use read_end::{add_enumerator, close_enum, declarator_begin, enumerator_end};
 use std::alloc::Global;
@@ -65,7 +69,13 @@ fn behind(alloc: Global, ss: SpecsRead, k: SpecsPlace) -> Result<DeclaratorPlace
             };
             DeclaratorFrame::Item(read, place)
         }
-        SpecsFrame::Field(f, k) => DeclaratorFrame::Field(node, f, k, specs, Declarators::new(alloc)),
+        SpecsFrame::Field(f, k) => DeclaratorFrame::Field(
+            node,
+            f,
+            k,
+            specs,
+            Declarators::new(alloc),
+        ),
         SpecsFrame::Param(p, k) => DeclaratorFrame::Param(node, p, k, specs),
         SpecsFrame::Type(o, place, k) => DeclaratorFrame::Type(o, node, place, k, specs),
     };

@@ -11,8 +11,9 @@ ghost use Rattle.c_stack.specs.Views.{view_argument_read, view_attribute_mode, v
 ghost use Rattle.c_stack.specs.declared.inside.Mode.TheVariants as modes;
 
 use c_held::{Arguments, Entries};
-use c_stack::inside::{ArgumentRead, AttributeMode, InAttribute, ItemHead, ItemRead, Mode, Next, Open, SpecsMode};
-use c_tree::{At, Attribute, AttributeArgument};
+use c_stack::inside::{
+    ArgumentRead, AttributeMode, InAttribute, ItemHead, ItemRead, Mode, Next, Open, SpecsMode,
+};
 use c_stack::make::mark;
 use c_stack::parts::{
     attribute, number_argument, text_argument, with_attribute, with_entry, with_entry_argument,
@@ -20,6 +21,7 @@ use c_stack::parts::{
 };
 use c_stack::step::{StepEnd, following};
 use c_stack::symbol::Symbol;
+use c_tree::{At, Attribute, AttributeArgument};
 use std::alloc::{AllocError, Global};
 use tok_base::{Bytes, Items, Span};
 
@@ -167,13 +169,7 @@ fn entries_begin(
 }
 
 /// The token behind an entry.
-fn entry_end(
-    id: u32,
-    o: Open,
-    a: InAttribute,
-    entries: Entries,
-    y: Symbol,
-) -> Result<Next, StepEnd>
+fn entry_end(id: u32, o: Open, a: InAttribute, entries: Entries, y: Symbol) -> Result<Next, StepEnd>
     ensures { (env : Env) → Gives env result (reader.entry_end id env (view_open o) (view_in_attribute a) (map shown_entry entries) (view_symbol y.entry)) }
 {
     match y {
@@ -260,7 +256,17 @@ fn first_argument(
 ) -> Result<Next, StepEnd>
     ensures { (env : Env) → Gives env result (reader.argument_begin id env (view_open o) (view_in_attribute a) (map shown_entry entries) name [] (view_symbol y.entry) span) }
 {
-    argument_begin(alloc, id, o, a, entries, name, Arguments::new(alloc), y, span)
+    argument_begin(
+        alloc,
+        id,
+        o,
+        a,
+        entries,
+        name,
+        Arguments::new(alloc),
+        y,
+        span,
+    )
 }
 
 /// The token behind the parenthesis of an entry.

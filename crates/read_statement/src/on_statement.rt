@@ -17,17 +17,20 @@ ghost use Rattle.c_stack.specs.declared.step.StepEnd.TheVariants.{NoMemory};
 
 use c_held::{BlockItems, Declarator, Expr, Externals, ForFirst, Specs, Stmt};
 use c_stack::inside::{Condition, ExprMode, Mode, Next, Open, Part, StmtMode, Unended};
-use c_stack::place::{BodyFrame, BodyPlace, DeclarationFrame, DeclarationPlace, ExprFrame, ExprPlace, SpecsFrame, SpecsPlace, StmtFrame, StmtPlace};
-use c_tree::At;
 use c_stack::make::{mark, no_expr};
 use c_stack::names::Names;
 use c_stack::numbers::{ending, refuse};
+use c_stack::place::{
+    BodyFrame, BodyPlace, DeclarationFrame, DeclarationPlace, ExprFrame, ExprPlace, SpecsFrame,
+    SpecsPlace, StmtFrame, StmtPlace,
+};
 use c_stack::statements::{
     block, break_, continue_, defines, do_while, empty, first_expr, for_, if_, if_else, return_,
     statement_item, while_, with_block_item, with_external,
 };
 use c_stack::step::{StepEnd, following};
 use c_stack::symbol::{Head, Symbol};
+use c_tree::At;
 use read_begin::{begin_specs, begins_specs, want};
 use std::alloc::{AllocError, Global};
 use tok_base::Span;
@@ -68,13 +71,7 @@ fn do_begin(alloc: Global, id: u32, o: Open, k: StmtPlace) -> Result<Next, StepE
 }
 
 /// A word that begins a statement.
-fn head_begin(
-    alloc: Global,
-    id: u32,
-    k: StmtPlace,
-    head: Head,
-    span: Span,
-) -> Result<Next, StepEnd>
+fn head_begin(alloc: Global, id: u32, k: StmtPlace, head: Head, span: Span) -> Result<Next, StepEnd>
     ensures { (env : Env) → Gives env result (reader.head_begin id env (view_stmt_place k) (view_head head) span) }
 {
     let o = Open::at(k.get().around().level, span.start)?;
