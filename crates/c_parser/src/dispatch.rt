@@ -5,27 +5,29 @@ ghost use Rattle.c_reader.specs.MarkedBegin as begin;
 ghost use Rattle.c_reader.specs.MarkedInside as inside;
 ghost use Rattle.c_reader.specs.Reader as reader;
 ghost use Rattle.c_stack.specs.Gives.{Gives};
-ghost use Rattle.c_stack.specs.Seen.{seen, view_symbol};
+ghost use Rattle.c_stack.specs.Seen.{view_symbol};
 ghost use Rattle.c_stack.specs.Shown.{shown_external};
 ghost use Rattle.c_stack.specs.Views.{view_declarator_mode, view_in_params, view_mode, view_specs_mode};
 
-use c_stack::inside::{DeclaratorMode, InDeclaration, InParams, InSpecs, Mode, Next, SpecsMode};
+use c_held::Externals;
+use c_stack::inside::{DeclaratorMode, InParams, Mode, Next, SpecsMode};
 use c_stack::names::Names;
+use c_stack::numbers::refuse;
+use c_stack::place::{DeclarationFrame, DeclarationPlace, SpecsFrame, SpecsPlace};
 use c_stack::step::StepEnd;
 use c_stack::symbol::{Symbol, symbol_of};
-use c_tree::External;
-use read_begin::{first_spec, refuse};
+use read_begin::first_spec;
 use read_declarator::{
-    array_next, declarator_begin, declarator_next, init_begin, init_next, item_next, opened_next,
-    params_next, star_next,
+    array_next, declarator_next, init_begin, opened_next, params_next, star_next,
 };
+use read_end::{declarator_begin, init_next, item_next};
 use read_expression::expr_next;
 use read_specifier::{
     enumerator_begin, enumerator_next, field_begin, specs_next, tag_next, tagged_next,
 };
 use read_statement::{attribute_next, stmt_mode_next};
 use std::alloc::Global;
-use tok_base::{Items, Span, Token};
+use tok_base::{Span, Token};
 
 /// The first token of a parameter behind a comma.
 fn want_param(
@@ -39,7 +41,7 @@ fn want_param(
     ensures { Gives names.now result (begin.first_spec id names.now (inside.of_param (view_in_params p)) (view_symbol y.entry) span) }
 {
     let InParams { read, place } = p;
-    let outer = Box::new(alloc, InSpecs::Param(read, place))?;
+    let outer = SpecsPlace::new(alloc, SpecsFrame::Param(read, place))?;
     first_spec(alloc, names, id, outer, y, span)
 }
 
@@ -96,14 +98,14 @@ fn want_external(
     names: &Names,
     id: u32,
     deep: u32,
-    done: Items<External>,
+    done: Externals,
     y: Symbol,
     span: Span,
 ) -> Result<Next, StepEnd>
     ensures { Gives names.now result (begin.first_spec id names.now (inside.of_declaration (inside.of_external deep (map shown_external done))) (view_symbol y.entry) span) }
 {
-    let inner = Box::new(alloc, InDeclaration::External(deep, done))?;
-    let outer = Box::new(alloc, InSpecs::Declaration(inner))?;
+    let inner = DeclarationPlace::new(alloc, DeclarationFrame::External(deep, done))?;
+    let outer = SpecsPlace::new(alloc, SpecsFrame::Declaration(inner))?;
     first_spec(alloc, names, id, outer, y, span)
 }
 

@@ -16,6 +16,7 @@ ghost use Rattle.c_parser.specs.Parsed.{Answers, Ended, Finished, IsParsed, IsTo
 ghost use Rattle.c_stack.specs.Views.{view_mode};
 
 use crate::dispatch::one_token;
+use c_held::Externals;
 use c_stack::inside::{Mode, Next};
 use c_stack::names::Names;
 use c_stack::step::StepEnd;
@@ -107,7 +108,7 @@ fn read_tokens(alloc: Global, tokens: &[Token]) -> Result<State, ParseEnd>
     let mut state = State {
         id: 0,
         names: Names::new(alloc),
-        mode: Mode::WantExternal(0, Items::new(alloc)),
+        mode: Mode::WantExternal(0, Externals::new(alloc)),
     };
     for (i, token) in tokens.iter().enumerate() {
         match take_token(alloc, state, end, token) {
@@ -135,7 +136,9 @@ fn unit_of(mode: Mode, count: u32) -> Result<Unit, ParseEnd>
     ensures { Ended result count (view_mode mode) }
 {
     match mode {
-        Mode::WantExternal(_, items) => Ok(Unit { items }),
+        Mode::WantExternal(_, items) => Ok(Unit {
+            items: items.open(),
+        }),
         Mode::Attribute(_, m, a) => refuse((m, a), count),
         Mode::Specs(m) => refuse(m, count),
         Mode::Declarator(m) => refuse(m, count),

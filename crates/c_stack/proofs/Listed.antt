@@ -1,9 +1,13 @@
 -- The program's lists of parts, seen as the reader's.
-use Rattle.std.proofs.Common.{◌≡◌, ℕ, Bool, List, [], ◌∷◌, map, Option, Some, None, Result, Ok, Err, IfOk, refl, ◌∙◌, ap}
+use Rattle.std.proofs.Common.{◌≡◌, ℕ, Bool, List, [], ◌∷◌, map, Option, Some, None, Box, refl, ◌∙◌, ap}
 use Rattle.c_tree.specs.declared.operator.At.{At}
 use Rattle.c_tree.specs.Marked as u
 use Rattle.c_tree.specs.View as v
 use Rattle.c_tree.specs.declared.expression.Expr.{Expr}
+use Rattle.c_tree.specs.declared.expression.Expr as e
+use Rattle.c_tree.specs.declared.expression.TypeName.{TypeName}
+use Rattle.c_tree.specs.declared.expression.Declarator as dd
+use Rattle.c_tree.proofs.Views.{view_call, view_cast, view_function_of, view_sizeof_type}
 use Rattle.c_tree.specs.declared.expression.Spec.{Spec}
 use Rattle.c_tree.specs.declared.expression.Field.{Field}
 use Rattle.c_tree.specs.declared.expression.Enumerator.{Enumerator}
@@ -15,10 +19,10 @@ use Rattle.c_tree.specs.declared.statement.Init.{Init}
 use Rattle.c_tree.specs.declared.statement.BlockItem.{BlockItem}
 use Rattle.c_tree.specs.declared.statement.BlockItem.TheBlock as x
 use Rattle.c_reader.specs.MarkedParts as r
-use Rattle.tok_base.specs.declared.list.NoMemory.{NoMemory}
+use Rattle.std.specs.Global.{Global}
 use Rattle.c_tree.specs.declared.statement.Stmt.{Stmt}
-use Rattle.c_tree.specs.declared.statement.External.TheVariants as e
-use Rattle.c_stack.specs.Shown.{shown, shown_spec, shown_specs, shown_declarator, shown_field, shown_enumerator, shown_param, shown_init, shown_stmt, shown_external, shown_block_item}
+use Rattle.c_tree.specs.declared.statement.External.TheVariants as ex
+use Rattle.c_stack.specs.Shown.{shown, shown_type, shown_spec, shown_specs, shown_declarator, shown_field, shown_enumerator, shown_param, shown_init, shown_stmt, shown_external, shown_block_item}
 
 pub exprs_same : (xs : List Expr) → v.exprs_of xs ≡ r.exprs_of (map shown xs)
 unfolding shown
@@ -75,22 +79,25 @@ pub items_same : (is : List BlockItem) → v.items_of is ≡ r.items_of (map sho
 items_same [] = refl
 items_same (i ∷ is) = ap (v.view_block_item i) (items_same is) ∙ item_same i (r.items_of (map shown_block_item is))
 
-pub called : (result : Result Expr NoMemory) (at : At) (f : Expr) (args : List Expr) → IfOk result (λ e. v.view e ≡ u.Call at (v.view f) (v.exprs_of args))
-    → IfOk result (λ e. shown e ≡ u.Call at (shown f) (r.exprs_of (map shown args)))
+pub called : (at : At) (f : Box Expr Global) (args : List Expr) → shown (e.Call at f args) ≡ u.Call at (shown f.value) (r.exprs_of (map shown args))
 unfolding shown
-called (Ok e) at f args h = h ∙ ap (u.Call at (v.view f)) (exprs_same args)
-called (Err e) at f args h = tt
+called at f args = view_call at f args ∙ ap (u.Call at (v.view f.value)) (exprs_same args)
+
+pub made_cast : (at : At) (t : Box TypeName Global) (a : Box Expr Global) → shown (e.Cast at t a) ≡ u.Cast at (shown_type t.value) (shown a.value)
+unfolding shown shown_type
+made_cast at t a = view_cast at t a
+
+pub made_sizeof_type : (at : At) (t : Box TypeName Global) → shown (e.SizeofType at t) ≡ u.SizeofType at (shown_type t.value)
+unfolding shown shown_type
+made_sizeof_type at t = view_sizeof_type at t
 
 pub called_builtin : (e : Expr) (at : At) (args : List Expr) → v.view e ≡ u.Builtin at (v.exprs_of args) → shown e ≡ u.Builtin at (r.exprs_of (map shown args))
 unfolding shown
 called_builtin e at args h = h ∙ ap (u.Builtin at) (exprs_same args)
 
-pub made_function : (result : Result Declarator NoMemory) (at : At) (d : Declarator) (ps : List Param)
-    → IfOk result (λ f. v.view_declarator f ≡ u.FunctionOf at (v.view_declarator d) (v.params_of ps))
-    → IfOk result (λ f. shown_declarator f ≡ u.FunctionOf at (shown_declarator d) (r.params_of (map shown_param ps)))
+pub made_function : (at : At) (d : Box Declarator Global) (ps : List Param) → shown_declarator (dd.FunctionOf at d ps) ≡ u.FunctionOf at (shown_declarator d.value) (r.params_of (map shown_param ps))
 unfolding shown_declarator
-made_function (Ok f) at d ps h = h ∙ ap (u.FunctionOf at (v.view_declarator d)) (params_same ps)
-made_function (Err e) at d ps h = tt
+made_function at d ps = view_function_of at d ps ∙ ap (u.FunctionOf at (v.view_declarator d.value)) (params_same ps)
 
 -- the first of them
 abbrev head_spec : u.Specs → r.Spec
@@ -136,7 +143,7 @@ unfolding shown_stmt
 made_block s at is h = h ∙ ap (u.Block at) (items_same is)
 
 pub defined : (at : At) (ss : List Spec) (d : Declarator) (body_at : At) (is : List BlockItem)
-    → shown_external (e.Definition (record { at = at; specs = ss; declarator = d; body = record { at = body_at; items = is } })) ≡ u.Definition at (shown_specs ss) (shown_declarator d) body_at (r.items_of (map shown_block_item is))
+    → shown_external (ex.Definition (record { at = at; specs = ss; declarator = d; body = record { at = body_at; items = is } })) ≡ u.Definition at (shown_specs ss) (shown_declarator d) body_at (r.items_of (map shown_block_item is))
 unfolding shown_external shown_specs shown_declarator
 defined at ss d body_at is = ap (u.Definition at (v.specs_of ss) (v.view_declarator d) body_at) (items_same is)
 

@@ -7,6 +7,27 @@ use Rattle.c_stack.specs.Seen.{view_tagged, view_member}
 use Rattle.c_stack.specs.Shown.{shown, shown_maybe, shown_type, shown_spec, shown_specs, shown_declarator, shown_field, shown_enumerator, shown_param, shown_qualifiers, shown_argument, shown_entry, shown_attribute, shown_init, shown_item, shown_first, shown_stmt, shown_block_item, shown_external}
 use Rattle.c_stack.specs.declared.inside.Open.{Open}
 use Rattle.c_stack.specs.declared.inside.Had.{Had}
+use Rattle.c_stack.specs.declared.place.StmtPlace.{StmtPlace}
+use Rattle.c_stack.specs.declared.place.BodyPlace.{BodyPlace}
+use Rattle.c_stack.specs.declared.place.DeclarationPlace.{DeclarationPlace}
+use Rattle.c_stack.specs.declared.place.InitPlace.{InitPlace}
+use Rattle.c_stack.specs.declared.place.ExprPlace.{ExprPlace}
+use Rattle.c_stack.specs.declared.place.DeclaratorPlace.{DeclaratorPlace}
+use Rattle.c_stack.specs.declared.place.SpecsPlace.{SpecsPlace}
+use Rattle.c_stack.specs.declared.place.StmtFrame.{StmtFrame}
+use Rattle.c_stack.specs.declared.place.StmtFrame.TheVariants as fs
+use Rattle.c_stack.specs.declared.place.BodyFrame.{BodyFrame}
+use Rattle.c_stack.specs.declared.place.BodyFrame.TheVariants as fb
+use Rattle.c_stack.specs.declared.place.DeclarationFrame.{DeclarationFrame}
+use Rattle.c_stack.specs.declared.place.DeclarationFrame.TheVariants as fd
+use Rattle.c_stack.specs.declared.place.InitFrame.{InitFrame}
+use Rattle.c_stack.specs.declared.place.InitFrame.TheVariants as fi
+use Rattle.c_stack.specs.declared.place.ExprFrame.{ExprFrame}
+use Rattle.c_stack.specs.declared.place.ExprFrame.TheVariants as fe
+use Rattle.c_stack.specs.declared.place.DeclaratorFrame.{DeclaratorFrame}
+use Rattle.c_stack.specs.declared.place.DeclaratorFrame.TheVariants as fp
+use Rattle.c_stack.specs.declared.place.SpecsFrame.{SpecsFrame}
+use Rattle.c_stack.specs.declared.place.SpecsFrame.TheVariants as fk
 use Rattle.c_stack.specs.declared.inside.InStmt.{InStmt}
 use Rattle.c_stack.specs.declared.inside.InBody.{InBody}
 use Rattle.c_stack.specs.declared.inside.InBody.TheBlock as b
@@ -166,23 +187,89 @@ abbrev mutual
   view_in_specs (b.InSpecs::Param' y at k) = r.of_param (params_at y (view_in_declarator k))
   view_in_specs (b.InSpecs::Type' x z at k) = r.of_type (view_open x) (view_place z) (view_in_expr k)
 
+-- ---- places, and their frames
+
+abbrev pub view_stmt_place : StmtPlace → r.InStmt
+view_stmt_place k = view_in_stmt k.place.value
+
+abbrev pub view_body_place : BodyPlace → r.InBody
+view_body_place k = view_in_body k.place.value
+
+abbrev pub view_declaration_place : DeclarationPlace → r.InDeclaration
+view_declaration_place k = view_in_declaration k.place.value
+
+abbrev pub view_init_place : InitPlace → r.InInit
+view_init_place k = view_in_init k.place.value
+
+abbrev pub view_expr_place : ExprPlace → r.InExpr
+view_expr_place k = view_in_expr k.place.value
+
+abbrev pub view_declarator_place : DeclaratorPlace → r.InDeclarator
+view_declarator_place k = view_in_declarator k.place.value
+
+abbrev pub view_specs_place : SpecsPlace → r.InSpecs
+view_specs_place k = view_in_specs k.place.value
+
+abbrev pub view_stmt_frame : StmtFrame → r.InStmt
+view_stmt_frame (fs.Block x is k) = r.in_block (view_open x) (map shown_block_item is) (view_body_place k)
+view_stmt_frame (fs.Then x a k) = r.in_then (view_open x) (shown a) (view_stmt_place k)
+view_stmt_frame (fs.Else x a s k) = r.in_else (view_open x) (shown a) (shown_stmt s) (view_stmt_place k)
+view_stmt_frame (fs.While x a k) = r.in_while (view_open x) (shown a) (view_stmt_place k)
+view_stmt_frame (fs.Do x k) = r.in_do (view_open x) (view_stmt_place k)
+view_stmt_frame (fs.For x first a e k) = r.in_for (view_open x) (shown_first first) (shown_maybe a) (shown_maybe e) (view_stmt_place k)
+
+abbrev pub view_body_frame : BodyFrame → r.InBody
+view_body_frame (fb.Definition deep x done ss d) = r.of_definition deep (view_open x) (map shown_external done) (shown_specs ss) (shown_declarator d)
+view_body_frame (fb.Stmt k) = r.of_stmt (view_stmt_place k)
+
+abbrev pub view_declaration_frame : DeclarationFrame → r.InDeclaration
+view_declaration_frame (fd.External deep done) = r.of_external deep (map shown_external done)
+view_declaration_frame (fd.Block x is k) = r.of_block (view_open x) (map shown_block_item is) (view_body_place k)
+view_declaration_frame (fd.For x k) = r.of_for (view_open x) (view_stmt_place k)
+
+abbrev pub view_init_frame : InitFrame → r.InInit
+view_init_frame (fi.Item x q) = r.of_item (item_at x (view_declaration_place q))
+view_init_frame (fi.Braces x is k) = r.in_braces (view_open x) (map shown_init is) (view_init_place k)
+
+abbrev pub view_expr_frame : ExprFrame → r.InExpr
+view_expr_frame (fe.Operand x y k) = r.in_operand (view_open x) (view_operand y) (view_expr_place k)
+view_expr_frame (fe.Bracket x y k) = r.in_bracket (view_open x) (view_bracket y) (view_expr_place k)
+view_expr_frame (fe.Stmt x y k) = r.in_stmt (view_open x) (view_part y) (view_stmt_place k)
+view_expr_frame (fe.Init k) = r.in_init (view_init_place k)
+view_expr_frame (fe.Value x y z k) = r.in_value (view_open x) y (enum_at z (view_specs_place k))
+view_expr_frame (fe.Array x y k) = r.in_array (view_open x) (shown_declarator y) (view_declarator_place k)
+
+abbrev pub view_declarator_frame : DeclaratorFrame → r.InDeclarator
+view_declarator_frame (fp.Pointer x qs k) = r.in_pointer (view_open x) (shown_qualifiers qs) (view_declarator_place k)
+view_declarator_frame (fp.Group x k) = r.in_group (view_open x) (view_declarator_place k)
+view_declarator_frame (fp.Item x q) = r.in_item (items_at x (view_declaration_place q))
+view_declarator_frame (fp.Field x y k ss ds) = r.in_field (view_open x) (record_at y (view_specs_place k)) (shown_specs ss) (map shown_declarator ds)
+view_declarator_frame (fp.Param x y k ss) = r.in_param (view_open x) (params_at y (view_declarator_place k)) (shown_specs ss)
+view_declarator_frame (fp.Type x y z k ss) = r.in_type (view_open x) (view_open y) (view_place z) (view_expr_place k) (shown_specs ss)
+
+abbrev pub view_specs_frame : SpecsFrame → r.InSpecs
+view_specs_frame (fk.Declaration q) = r.of_declaration (view_declaration_place q)
+view_specs_frame (fk.Field y k) = r.of_field (record_at y (view_specs_place k))
+view_specs_frame (fk.Param y k) = r.of_param (params_at y (view_declarator_place k))
+view_specs_frame (fk.Type x z k) = r.of_type (view_open x) (view_place z) (view_expr_place k)
+
 abbrev pub view_in_items : InItems → r.InItems
-view_in_items x = items_at x.read (view_in_declaration x.place.value)
+view_in_items x = items_at x.read (view_declaration_place x.place)
 
 abbrev pub view_item_read : ItemRead → r.ItemRead
-view_item_read x = item_at x.head (view_in_declaration x.place.value)
+view_item_read x = item_at x.head (view_declaration_place x.place)
 
 abbrev pub view_in_fields : InFields → r.InFields
-view_in_fields x = record_at x.read (view_in_specs x.place.value)
+view_in_fields x = record_at x.read (view_specs_place x.place)
 
 abbrev pub view_in_enum : InEnum → r.InEnum
-view_in_enum x = enum_at x.read (view_in_specs x.place.value)
+view_in_enum x = enum_at x.read (view_specs_place x.place)
 
 abbrev pub view_in_params : InParams → r.InParams
-view_in_params x = params_at x.read (view_in_declarator x.place.value)
+view_in_params x = params_at x.read (view_declarator_place x.place)
 
 abbrev pub view_in_attribute : InAttribute → r.InAttribute
-view_in_attribute (n.Specs ss k) = r.of_specs (view_specs_read ss) (view_in_specs k.value)
+view_in_attribute (n.Specs ss k) = r.of_specs (view_specs_read ss) (view_specs_place k)
 view_in_attribute (n.Read x) = r.of_read (view_item_read x)
 
 -- ---- where the reader is
@@ -204,32 +291,32 @@ view_attribute_mode (am.AfterEntry es) = r.after_entry (map shown_entry es)
 view_attribute_mode (am.Closing es) = r.attribute_closing (map shown_entry es)
 
 abbrev pub view_specs_mode : SpecsMode → r.SpecsMode
-view_specs_mode (sm.InSpecs ss k) = r.in_specs (view_specs_read ss) (view_in_specs k.value)
-view_specs_mode (sm.AfterTagged x y ss k) = r.after_tagged (view_open x) (view_tagged y) (view_specs_read ss) (view_in_specs k.value)
-view_specs_mode (sm.AfterTag x y z ss k) = r.after_tag (view_open x) (view_tagged y) z (view_specs_read ss) (view_in_specs k.value)
+view_specs_mode (sm.InSpecs ss k) = r.in_specs (view_specs_read ss) (view_specs_place k)
+view_specs_mode (sm.AfterTagged x y ss k) = r.after_tagged (view_open x) (view_tagged y) (view_specs_read ss) (view_specs_place k)
+view_specs_mode (sm.AfterTag x y z ss k) = r.after_tag (view_open x) (view_tagged y) z (view_specs_read ss) (view_specs_place k)
 view_specs_mode (sm.WantField k) = r.want_field (view_in_fields k)
 view_specs_mode (sm.WantEnumerator k) = r.want_enumerator (view_in_enum k)
 view_specs_mode (sm.AfterEnumerator x y k) = r.after_enumerator (view_open x) y (view_in_enum k)
 view_specs_mode (sm.WantParam k) = r.want_param (view_in_params k)
 
 abbrev pub view_declarator_mode : DeclaratorMode → r.DeclaratorMode
-view_declarator_mode (dm.WantDeclarator k) = r.want_declarator (view_in_declarator k.value)
-view_declarator_mode (dm.AfterStar x qs k) = r.after_star (view_open x) (shown_qualifiers qs) (view_in_declarator k.value)
-view_declarator_mode (dm.Opened x k) = r.declarator_opened (view_open x) (view_in_declarator k.value)
-view_declarator_mode (dm.AfterDeclarator x k y) = r.after_declarator (view_had x) (view_in_declarator k.value) (shown_declarator y)
-view_declarator_mode (dm.ArrayOpened x y k) = r.array_opened (view_open x) (shown_declarator y) (view_in_declarator k.value)
-view_declarator_mode (dm.ParamsOpened x y k) = r.params_opened (view_open x) (shown_declarator y) (view_in_declarator k.value)
+view_declarator_mode (dm.WantDeclarator k) = r.want_declarator (view_declarator_place k)
+view_declarator_mode (dm.AfterStar x qs k) = r.after_star (view_open x) (shown_qualifiers qs) (view_declarator_place k)
+view_declarator_mode (dm.Opened x k) = r.declarator_opened (view_open x) (view_declarator_place k)
+view_declarator_mode (dm.AfterDeclarator x k y) = r.after_declarator (view_had x) (view_declarator_place k) (shown_declarator y)
+view_declarator_mode (dm.ArrayOpened x y k) = r.array_opened (view_open x) (shown_declarator y) (view_declarator_place k)
+view_declarator_mode (dm.ParamsOpened x y k) = r.params_opened (view_open x) (shown_declarator y) (view_declarator_place k)
 
 abbrev pub view_expr_mode : ExprMode → r.ExprMode
-view_expr_mode (em.WantExpr k) = r.want_expr (view_in_expr k.value)
-view_expr_mode (em.AfterExpr x k a) = r.after_expr (view_had x) (view_in_expr k.value) (shown a)
-view_expr_mode (em.AfterText from k xs) = r.after_text from (view_in_expr k.value) xs
-view_expr_mode (em.Opened x k) = r.opened (view_open x) (view_in_expr k.value)
-view_expr_mode (em.AfterSizeof x k) = r.after_sizeof (view_open x) (view_in_expr k.value)
-view_expr_mode (em.SizeofOpened x from k) = r.sizeof_opened (view_open x) from (view_in_expr k.value)
-view_expr_mode (em.ArgsOpened x a k) = r.args_opened (view_open x) (shown a) (view_in_expr k.value)
-view_expr_mode (em.AfterBuiltin x k) = r.after_builtin (view_open x) (view_in_expr k.value)
-view_expr_mode (em.WantMember x a y k) = r.want_member (view_open x) (shown a) (view_member y) (view_in_expr k.value)
+view_expr_mode (em.WantExpr k) = r.want_expr (view_expr_place k)
+view_expr_mode (em.AfterExpr x k a) = r.after_expr (view_had x) (view_expr_place k) (shown a)
+view_expr_mode (em.AfterText from k xs) = r.after_text from (view_expr_place k) xs
+view_expr_mode (em.Opened x k) = r.opened (view_open x) (view_expr_place k)
+view_expr_mode (em.AfterSizeof x k) = r.after_sizeof (view_open x) (view_expr_place k)
+view_expr_mode (em.SizeofOpened x from k) = r.sizeof_opened (view_open x) from (view_expr_place k)
+view_expr_mode (em.ArgsOpened x a k) = r.args_opened (view_open x) (shown a) (view_expr_place k)
+view_expr_mode (em.AfterBuiltin x k) = r.after_builtin (view_open x) (view_expr_place k)
+view_expr_mode (em.WantMember x a y k) = r.want_member (view_open x) (shown a) (view_member y) (view_expr_place k)
 
 abbrev pub view_unended : Unended → r.Unended
 view_unended un.Broken = r.broken
@@ -237,15 +324,15 @@ view_unended un.Continued = r.continued
 view_unended (un.DoneWhile s a) = r.done_while (shown_stmt s) (shown a)
 
 abbrev pub view_stmt_mode : StmtMode → r.StmtMode
-view_stmt_mode (tm.WantStmt k) = r.want_stmt (view_in_stmt k.value)
-view_stmt_mode (tm.AfterStmt deep k s) = r.after_stmt deep (view_in_stmt k.value) (shown_stmt s)
-view_stmt_mode (tm.WantParen x y k) = r.want_paren (view_open x) (view_condition y) (view_in_stmt k.value)
-view_stmt_mode (tm.AfterFor x k) = r.after_for (view_open x) (view_in_stmt k.value)
-view_stmt_mode (tm.ForOpened x k) = r.for_opened (view_open x) (view_in_stmt k.value)
-view_stmt_mode (tm.WantCondition x y k) = r.want_condition (view_open x) (shown_first y) (view_in_stmt k.value)
-view_stmt_mode (tm.WantStep x y a k) = r.want_step (view_open x) (shown_first y) (shown_maybe a) (view_in_stmt k.value)
-view_stmt_mode (tm.WantSemi x y k) = r.want_semi (view_open x) (view_unended y) (view_in_stmt k.value)
-view_stmt_mode (tm.AfterReturn x k) = r.after_return (view_open x) (view_in_stmt k.value)
+view_stmt_mode (tm.WantStmt k) = r.want_stmt (view_stmt_place k)
+view_stmt_mode (tm.AfterStmt deep k s) = r.after_stmt deep (view_stmt_place k) (shown_stmt s)
+view_stmt_mode (tm.WantParen x y k) = r.want_paren (view_open x) (view_condition y) (view_stmt_place k)
+view_stmt_mode (tm.AfterFor x k) = r.after_for (view_open x) (view_stmt_place k)
+view_stmt_mode (tm.ForOpened x k) = r.for_opened (view_open x) (view_stmt_place k)
+view_stmt_mode (tm.WantCondition x y k) = r.want_condition (view_open x) (shown_first y) (view_stmt_place k)
+view_stmt_mode (tm.WantStep x y a k) = r.want_step (view_open x) (shown_first y) (shown_maybe a) (view_stmt_place k)
+view_stmt_mode (tm.WantSemi x y k) = r.want_semi (view_open x) (view_unended y) (view_stmt_place k)
+view_stmt_mode (tm.AfterReturn x k) = r.after_return (view_open x) (view_stmt_place k)
 
 abbrev pub view_mode : Mode → r.Mode
 view_mode (m.WantExternal deep done) = r.want_external deep (map shown_external done)
@@ -253,7 +340,7 @@ view_mode (m.Attribute x y k) = r.in_attribute (view_open x) (view_attribute_mod
 view_mode (m.Specs x) = r.specs (view_specs_mode x)
 view_mode (m.Declarator x) = r.declarator (view_declarator_mode x)
 view_mode (m.AfterAttributes x) = r.after_attributes (view_item_read x)
-view_mode (m.WantInit k) = r.want_init (view_in_init k.value)
-view_mode (m.AfterInit deep k x) = r.after_init deep (view_in_init k.value) (shown_init x)
+view_mode (m.WantInit k) = r.want_init (view_init_place k)
+view_mode (m.AfterInit deep k x) = r.after_init deep (view_init_place k) (shown_init x)
 view_mode (m.Expr x) = r.expr (view_expr_mode x)
 view_mode (m.Stmt x) = r.stmt (view_stmt_mode x)

@@ -44,10 +44,10 @@ impl DeclaratorMode {
         ensures { result ≡ reader.declarator_height (view_declarator_mode self.now) }
     {
         match self {
-            DeclaratorMode::WantDeclarator(k) => k.around().reach(),
+            DeclaratorMode::WantDeclarator(k) => k.get().around().reach(),
             DeclaratorMode::AfterStar(o, ..) => o.reach(),
             DeclaratorMode::Opened(o, ..) => o.reach(),
-            DeclaratorMode::AfterDeclarator(h, k, _) => k.around().above(h.deep),
+            DeclaratorMode::AfterDeclarator(h, k, _) => k.get().around().above(h.deep),
             DeclaratorMode::ArrayOpened(o, ..) => o.reach(),
             DeclaratorMode::ParamsOpened(o, ..) => o.reach(),
         }
@@ -59,9 +59,9 @@ impl ExprMode {
         ensures { result ≡ reader.expr_height (view_expr_mode self.now) }
     {
         match self {
-            ExprMode::WantExpr(k) => k.around().reach(),
-            ExprMode::AfterExpr(h, k, _) => k.around().above(h.deep),
-            ExprMode::AfterText(_, k, _) => k.around().above(1),
+            ExprMode::WantExpr(k) => k.get().around().reach(),
+            ExprMode::AfterExpr(h, k, _) => k.get().around().above(h.deep),
+            ExprMode::AfterText(_, k, _) => k.get().around().above(1),
             ExprMode::Opened(o, ..) => o.reach(),
             ExprMode::AfterSizeof(o, ..) => o.reach(),
             ExprMode::SizeofOpened(o, ..) => o.reach(),
@@ -77,8 +77,8 @@ impl StmtMode {
         ensures { result ≡ reader.stmt_height (view_stmt_mode self.now) }
     {
         match self {
-            StmtMode::WantStmt(k) => k.around().reach(),
-            StmtMode::AfterStmt(deep, k, _) => k.around().above(*deep),
+            StmtMode::WantStmt(k) => k.get().around().reach(),
+            StmtMode::AfterStmt(deep, k, _) => k.get().around().above(*deep),
             StmtMode::WantParen(o, ..) => o.reach(),
             StmtMode::AfterFor(o, ..) => o.reach(),
             StmtMode::ForOpened(o, ..) => o.reach(),
@@ -101,8 +101,8 @@ impl Mode {
             Mode::Specs(m) => m.height(),
             Mode::Declarator(m) => m.height(),
             Mode::AfterAttributes(r) => r.head.node.reach(),
-            Mode::WantInit(k) => k.around().reach(),
-            Mode::AfterInit(deep, k, _) => k.around().above(*deep),
+            Mode::WantInit(k) => k.get().around().reach(),
+            Mode::AfterInit(deep, k, _) => k.get().around().above(*deep),
             Mode::Expr(m) => m.height(),
             Mode::Stmt(m) => m.height(),
         }

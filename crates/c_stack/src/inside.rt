@@ -3,11 +3,16 @@
 ghost use Rattle.std.specs.Prelude.{◌≡◌, None};
 ghost use Rattle.c_stack.specs.declared.inside.Mode.TheVariants as modes;
 
-use crate::symbol::{Member, Tagged};
-use c_tree::{
-    AssignOp, Attribute, AttributeArgument, BinaryOp, BlockItem, Declarator, Entry, Enumerator,
-    Expr, External, Field, ForFirst, Init, Item, Param, PrefixOp, Qualifier, Spec, Stmt, TypeName,
+use crate::place::{
+    BodyPlace, DeclarationPlace, DeclaratorPlace, ExprPlace, InitPlace, SpecsPlace, StmtPlace,
 };
+use crate::symbol::{Member, Tagged};
+use c_held::{
+    Arguments, Attributes, BlockItems, Declarator, Declarators, DeclaredItems, Entries,
+    Enumerators, Expr, Exprs, Externals, Fields, ForFirst, Init, Inits, Params, Specs, Stmt,
+    TypeName,
+};
+use c_tree::{AssignOp, BinaryOp, PrefixOp, Qualifier};
 use std::convert::Infallible;
 use tok_base::{Bytes, Items};
 
@@ -33,9 +38,9 @@ pub struct Had {
 #[derive(Drop)]
 pub struct ItemsRead {
     pub node: Open,
-    pub specs: Items<Spec>,
+    pub specs: Specs,
     pub typedef: bool,
-    pub items: Items<Item>,
+    pub items: DeclaredItems,
 }
 
 /// An item without its initialiser, behind these.
@@ -44,7 +49,7 @@ pub struct ItemHead {
     pub node: Open,
     pub before: ItemsRead,
     pub declarator: Declarator,
-    pub attributes: Items<Attribute>,
+    pub attributes: Attributes,
 }
 
 /// Where a statement is still to come.
@@ -52,7 +57,7 @@ pub struct ItemHead {
 #[derive(Drop)]
 pub enum InStmt {
     /// In braces, behind these items.
-    Block(Open, Items<BlockItem>, Box<InBody>),
+    Block(Open, BlockItems, Box<InBody>),
     Then(Open, Expr, Box<InStmt>),
     Else(Open, Expr, Stmt, Box<InStmt>),
     While(Open, Expr, Box<InStmt>),
@@ -65,7 +70,7 @@ pub enum InStmt {
 #[cycle(inside)]
 #[derive(Drop)]
 pub enum InBody {
-    Definition(u32, Open, Items<External>, Items<Spec>, Declarator),
+    Definition(u32, Open, Externals, Specs, Declarator),
     Stmt(Box<InStmt>),
     /// No value has it: the grammar has no statement in an expression. It makes the types of the stack one
     /// cycle, whose parts the checker then lays out once.
@@ -76,8 +81,8 @@ pub enum InBody {
 #[cycle(inside)]
 #[derive(Drop)]
 pub enum InDeclaration {
-    External(u32, Items<External>),
-    Block(Open, Items<BlockItem>, Box<InBody>),
+    External(u32, Externals),
+    Block(Open, BlockItems, Box<InBody>),
     For(Open, Box<InStmt>),
 }
 
@@ -86,21 +91,21 @@ pub enum InDeclaration {
 #[derive(Drop)]
 pub enum InInit {
     Item(ItemHead, Box<InDeclaration>),
-    Braces(Open, Items<Init>, Box<InInit>),
+    Braces(Open, Inits, Box<InInit>),
 }
 
 /// Where an item of a declaration is still to come.
 #[derive(Drop)]
 pub struct InItems {
     pub read: ItemsRead,
-    pub place: Box<InDeclaration>,
+    pub place: DeclarationPlace,
 }
 
 /// An item without its initialiser, and where its declaration stands.
 #[derive(Drop)]
 pub struct ItemRead {
     pub head: ItemHead,
-    pub place: Box<InDeclaration>,
+    pub place: DeclarationPlace,
 }
 
 /// The condition of a statement.
@@ -150,7 +155,7 @@ pub enum Callee {
 pub enum Bracket {
     Paren,
     Index(Expr),
-    Args(Callee, Items<Expr>),
+    Args(Callee, Exprs),
     Middle(Expr),
 }
 
@@ -166,7 +171,7 @@ pub enum TypePlace {
 #[derive(Drop)]
 pub struct SpecsRead {
     pub node: Open,
-    pub specs: Items<Spec>,
+    pub specs: Specs,
     pub seen: bool,
     pub typedef: bool,
 }
@@ -177,7 +182,7 @@ pub struct RecordRead {
     pub node: Open,
     pub is_union: bool,
     pub tag: Option<Bytes>,
-    pub fields: Items<Field>,
+    pub fields: Fields,
     pub specs: SpecsRead,
 }
 
@@ -186,7 +191,7 @@ pub struct RecordRead {
 pub struct EnumRead {
     pub node: Open,
     pub tag: Option<Bytes>,
-    pub list: Items<Enumerator>,
+    pub list: Enumerators,
     pub specs: SpecsRead,
 }
 
@@ -195,7 +200,7 @@ pub struct EnumRead {
 pub struct ParamsRead {
     pub node: Open,
     pub declarator: Declarator,
-    pub params: Items<Param>,
+    pub params: Params,
 }
 
 /// Where an expression is still to come.
@@ -219,10 +224,10 @@ pub enum InDeclarator {
     Pointer(Open, Items<Qualifier>, Box<InDeclarator>),
     Group(Open, Box<InDeclarator>),
     Item(ItemsRead, Box<InDeclaration>),
-    Field(Open, RecordRead, Box<InSpecs>, Items<Spec>, Items<Declarator>),
-    Param(Open, ParamsRead, Box<InDeclarator>, Items<Spec>),
+    Field(Open, RecordRead, Box<InSpecs>, Specs, Declarators),
+    Param(Open, ParamsRead, Box<InDeclarator>, Specs),
     /// In a type name; the outer node is the cast or the `sizeof`.
-    Type(Open, Open, TypePlace, Box<InExpr>, Items<Spec>),
+    Type(Open, Open, TypePlace, Box<InExpr>, Specs),
 }
 
 /// Where specifiers are still to come.
@@ -239,27 +244,27 @@ pub enum InSpecs {
 #[derive(Drop)]
 pub struct InFields {
     pub read: RecordRead,
-    pub place: Box<InSpecs>,
+    pub place: SpecsPlace,
 }
 
 /// Where an enumerator is still to come.
 #[derive(Drop)]
 pub struct InEnum {
     pub read: EnumRead,
-    pub place: Box<InSpecs>,
+    pub place: SpecsPlace,
 }
 
 /// Where a parameter is still to come.
 #[derive(Drop)]
 pub struct InParams {
     pub read: ParamsRead,
-    pub place: Box<InDeclarator>,
+    pub place: DeclaratorPlace,
 }
 
 /// Where an attribute stands.
 #[derive(Drop)]
 pub enum InAttribute {
-    Specs(SpecsRead, Box<InSpecs>),
+    Specs(SpecsRead, SpecsPlace),
     Read(ItemRead),
 }
 
@@ -278,22 +283,22 @@ pub enum AttributeMode {
     Word,
     Opened,
     EntriesOpened,
-    WantEntry(Items<Entry>),
-    AfterEntryName(Items<Entry>, Bytes),
-    ArgumentsOpened(Items<Entry>, Bytes),
-    WantArgument(Items<Entry>, Bytes, Items<AttributeArgument>),
-    AfterArgument(u32, Items<Entry>, Bytes, Items<AttributeArgument>, ArgumentRead),
-    AfterEntry(Items<Entry>),
-    Closing(Items<Entry>),
+    WantEntry(Entries),
+    AfterEntryName(Entries, Bytes),
+    ArgumentsOpened(Entries, Bytes),
+    WantArgument(Entries, Bytes, Arguments),
+    AfterArgument(u32, Entries, Bytes, Arguments, ArgumentRead),
+    AfterEntry(Entries),
+    Closing(Entries),
 }
 
 /// Where the reader is among specifiers, or in a record, an enumeration or a list of parameters that opens there.
 #[derive(Drop)]
 pub enum SpecsMode {
-    InSpecs(SpecsRead, Box<InSpecs>),
+    InSpecs(SpecsRead, SpecsPlace),
     /// `struct`, `union` or `enum`
-    AfterTagged(Open, Tagged, SpecsRead, Box<InSpecs>),
-    AfterTag(Open, Tagged, Bytes, SpecsRead, Box<InSpecs>),
+    AfterTagged(Open, Tagged, SpecsRead, SpecsPlace),
+    AfterTag(Open, Tagged, Bytes, SpecsRead, SpecsPlace),
     WantField(InFields),
     WantEnumerator(InEnum),
     AfterEnumerator(Open, Bytes, InEnum),
@@ -303,29 +308,29 @@ pub enum SpecsMode {
 /// Where the reader is in a declarator.
 #[derive(Drop)]
 pub enum DeclaratorMode {
-    WantDeclarator(Box<InDeclarator>),
-    AfterStar(Open, Items<Qualifier>, Box<InDeclarator>),
+    WantDeclarator(DeclaratorPlace),
+    AfterStar(Open, Items<Qualifier>, DeclaratorPlace),
     /// `(`
-    Opened(Open, Box<InDeclarator>),
-    AfterDeclarator(Had, Box<InDeclarator>, Declarator),
-    ArrayOpened(Open, Declarator, Box<InDeclarator>),
-    ParamsOpened(Open, Declarator, Box<InDeclarator>),
+    Opened(Open, DeclaratorPlace),
+    AfterDeclarator(Had, DeclaratorPlace, Declarator),
+    ArrayOpened(Open, Declarator, DeclaratorPlace),
+    ParamsOpened(Open, Declarator, DeclaratorPlace),
 }
 
 /// Where the reader is in an expression.
 #[derive(Drop)]
 pub enum ExprMode {
-    WantExpr(Box<InExpr>),
-    AfterExpr(Had, Box<InExpr>, Expr),
-    AfterText(u32, Box<InExpr>, Items<Bytes>),
+    WantExpr(ExprPlace),
+    AfterExpr(Had, ExprPlace, Expr),
+    AfterText(u32, ExprPlace, Items<Bytes>),
     /// `(`
-    Opened(Open, Box<InExpr>),
-    AfterSizeof(Open, Box<InExpr>),
+    Opened(Open, ExprPlace),
+    AfterSizeof(Open, ExprPlace),
     /// `sizeof (`; where the parenthesis stands
-    SizeofOpened(Open, u32, Box<InExpr>),
-    ArgsOpened(Open, Expr, Box<InExpr>),
-    AfterBuiltin(Open, Box<InExpr>),
-    WantMember(Open, Expr, Member, Box<InExpr>),
+    SizeofOpened(Open, u32, ExprPlace),
+    ArgsOpened(Open, Expr, ExprPlace),
+    AfterBuiltin(Open, ExprPlace),
+    WantMember(Open, Expr, Member, ExprPlace),
 }
 
 /// A statement that lacks its semicolon.
@@ -339,27 +344,27 @@ pub enum Unended {
 /// Where the reader is in a statement.
 #[derive(Drop)]
 pub enum StmtMode {
-    WantStmt(Box<InStmt>),
-    AfterStmt(u32, Box<InStmt>, Stmt),
-    WantParen(Open, Condition, Box<InStmt>),
-    AfterFor(Open, Box<InStmt>),
-    ForOpened(Open, Box<InStmt>),
-    WantCondition(Open, ForFirst, Box<InStmt>),
-    WantStep(Open, ForFirst, Option<Expr>, Box<InStmt>),
-    WantSemi(Open, Unended, Box<InStmt>),
-    AfterReturn(Open, Box<InStmt>),
+    WantStmt(StmtPlace),
+    AfterStmt(u32, StmtPlace, Stmt),
+    WantParen(Open, Condition, StmtPlace),
+    AfterFor(Open, StmtPlace),
+    ForOpened(Open, StmtPlace),
+    WantCondition(Open, ForFirst, StmtPlace),
+    WantStep(Open, ForFirst, Option<Expr>, StmtPlace),
+    WantSemi(Open, Unended, StmtPlace),
+    AfterReturn(Open, StmtPlace),
 }
 
 /// Where the reader is: what the next token may be a part of.
 #[derive(Drop)]
 pub enum Mode {
-    WantExternal(u32, Items<External>),
+    WantExternal(u32, Externals),
     Attribute(Open, AttributeMode, InAttribute),
     Specs(SpecsMode),
     Declarator(DeclaratorMode),
     AfterAttributes(ItemRead),
-    WantInit(Box<InInit>),
-    AfterInit(u32, Box<InInit>, Init),
+    WantInit(InitPlace),
+    AfterInit(u32, InitPlace, Init),
     Expr(ExprMode),
     Stmt(StmtMode),
 }

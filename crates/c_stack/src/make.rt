@@ -6,7 +6,9 @@ ghost use Rattle.c_tree.specs.Marked as marked;
 ghost use Rattle.c_tree.specs.View.{view_assign, view_op, view_prefix, view_step};
 ghost use Rattle.c_stack.specs.Shown.{shown, shown_maybe, shown_maybe_declarator, shown_specs, shown_type};
 
-use c_tree::{AssignOp, At, BinaryOp, Declarator, Expr, PrefixOp, Spec, Step, TypeName, make};
+use crate::raw;
+use c_held::{DeclaratorBox, Expr, Exprs, Specs, TypeName};
+use c_tree::{AssignOp, At, BinaryOp, PrefixOp, Step};
 use std::alloc::{AllocError, Global};
 use tok_base::{Bytes, Items, NoMemory, Span};
 
@@ -28,7 +30,8 @@ pub fn mark(from: u32, to: u32, id: u32) -> At
 pub fn name(alloc: Global, at: At, text: &[u8]) -> Result<Expr, AllocError>
     ensures { IfOk result (λ e. shown e ≡ marked.Name at text.now) }
 {
-    Ok(Expr::Name(at, Items::from_slice(alloc, text)?))
+    let text = Items::from_slice(alloc, text)?;
+    Ok(Expr::new(c_tree::Expr::Name(at, text)))
 }
 
 /// A number.
@@ -36,7 +39,8 @@ pub fn name(alloc: Global, at: At, text: &[u8]) -> Result<Expr, AllocError>
 pub fn number(alloc: Global, at: At, text: &[u8]) -> Result<Expr, AllocError>
     ensures { IfOk result (λ e. shown e ≡ marked.Number at text.now) }
 {
-    Ok(Expr::Number(at, Items::from_slice(alloc, text)?))
+    let text = Items::from_slice(alloc, text)?;
+    Ok(Expr::new(c_tree::Expr::Number(at, text)))
 }
 
 /// A character constant.
@@ -44,7 +48,8 @@ pub fn number(alloc: Global, at: At, text: &[u8]) -> Result<Expr, AllocError>
 pub fn character(alloc: Global, at: At, text: &[u8]) -> Result<Expr, AllocError>
     ensures { IfOk result (λ e. shown e ≡ marked.Char at text.now) }
 {
-    Ok(Expr::Char(at, Items::from_slice(alloc, text)?))
+    let text = Items::from_slice(alloc, text)?;
+    Ok(Expr::new(c_tree::Expr::Char(at, text)))
 }
 
 /// String literals side by side.
@@ -52,7 +57,7 @@ pub fn character(alloc: Global, at: At, text: &[u8]) -> Result<Expr, AllocError>
 pub fn text(at: At, pieces: Items<Bytes>) -> Expr
     ensures { shown result ≡ marked.Text at pieces }
 {
-    Expr::Text(at, pieces)
+    Expr::new(c_tree::Expr::Text(at, pieces))
 }
 
 /// `(a)`
@@ -60,7 +65,8 @@ pub fn text(at: At, pieces: Items<Bytes>) -> Expr
 pub fn paren(alloc: Global, at: At, a: Expr) -> Result<Expr, AllocError>
     ensures { IfOk result (λ e. shown e ≡ marked.Paren at (shown a)) }
 {
-    Ok(Expr::Paren(at, Box::new(alloc, a)?))
+    let a = a.boxed(alloc)?;
+    Ok(Expr::new(c_tree::Expr::Paren(at, a.open())))
 }
 
 /// `a[b]`
@@ -68,9 +74,9 @@ pub fn paren(alloc: Global, at: At, a: Expr) -> Result<Expr, AllocError>
 pub fn index(alloc: Global, at: At, a: Expr, b: Expr) -> Result<Expr, AllocError>
     ensures { IfOk result (λ e. shown e ≡ marked.Index at (shown a) (shown b)) }
 {
-    let a = Box::new(alloc, a)?;
-    let b = Box::new(alloc, b)?;
-    Ok(Expr::Index(at, a, b))
+    let a = a.boxed(alloc)?;
+    let b = b.boxed(alloc)?;
+    Ok(Expr::new(c_tree::Expr::Index(at, a.open(), b.open())))
 }
 
 /// `a, b`
@@ -78,9 +84,9 @@ pub fn index(alloc: Global, at: At, a: Expr, b: Expr) -> Result<Expr, AllocError
 pub fn comma(alloc: Global, at: At, a: Expr, b: Expr) -> Result<Expr, AllocError>
     ensures { IfOk result (λ e. shown e ≡ marked.Comma at (shown a) (shown b)) }
 {
-    let a = Box::new(alloc, a)?;
-    let b = Box::new(alloc, b)?;
-    Ok(Expr::Comma(at, a, b))
+    let a = a.boxed(alloc)?;
+    let b = b.boxed(alloc)?;
+    Ok(Expr::new(c_tree::Expr::Comma(at, a.open(), b.open())))
 }
 
 /// `a op b`
@@ -88,9 +94,9 @@ pub fn comma(alloc: Global, at: At, a: Expr, b: Expr) -> Result<Expr, AllocError
 pub fn binary(alloc: Global, at: At, a: Expr, op: BinaryOp, b: Expr) -> Result<Expr, AllocError>
     ensures { IfOk result (λ e. shown e ≡ marked.Binary at (shown a) (view_op op) (shown b)) }
 {
-    let a = Box::new(alloc, a)?;
-    let b = Box::new(alloc, b)?;
-    Ok(Expr::Binary(at, a, op, b))
+    let a = a.boxed(alloc)?;
+    let b = b.boxed(alloc)?;
+    Ok(Expr::new(c_tree::Expr::Binary(at, a.open(), op, b.open())))
 }
 
 /// `a op b` of an assignment.
@@ -98,9 +104,9 @@ pub fn binary(alloc: Global, at: At, a: Expr, op: BinaryOp, b: Expr) -> Result<E
 pub fn assign(alloc: Global, at: At, a: Expr, op: AssignOp, b: Expr) -> Result<Expr, AllocError>
     ensures { IfOk result (λ e. shown e ≡ marked.Assign at (shown a) (view_assign op) (shown b)) }
 {
-    let a = Box::new(alloc, a)?;
-    let b = Box::new(alloc, b)?;
-    Ok(Expr::Assign(at, a, op, b))
+    let a = a.boxed(alloc)?;
+    let b = b.boxed(alloc)?;
+    Ok(Expr::new(c_tree::Expr::Assign(at, a.open(), op, b.open())))
 }
 
 /// `a ? b : c`
@@ -108,10 +114,10 @@ pub fn assign(alloc: Global, at: At, a: Expr, op: AssignOp, b: Expr) -> Result<E
 pub fn conditional(alloc: Global, at: At, a: Expr, b: Expr, c: Expr) -> Result<Expr, AllocError>
     ensures { IfOk result (λ e. shown e ≡ marked.Cond at (shown a) (shown b) (shown c)) }
 {
-    let a = Box::new(alloc, a)?;
-    let b = Box::new(alloc, b)?;
-    let c = Box::new(alloc, c)?;
-    Ok(Expr::Cond(at, a, b, c))
+    let a = a.boxed(alloc)?;
+    let b = b.boxed(alloc)?;
+    let c = c.boxed(alloc)?;
+    Ok(Expr::new(c_tree::Expr::Cond(at, a.open(), b.open(), c.open())))
 }
 
 /// `op a`
@@ -119,7 +125,8 @@ pub fn conditional(alloc: Global, at: At, a: Expr, b: Expr, c: Expr) -> Result<E
 pub fn prefix(alloc: Global, at: At, op: PrefixOp, a: Expr) -> Result<Expr, AllocError>
     ensures { IfOk result (λ e. shown e ≡ marked.Prefix at (view_prefix op) (shown a)) }
 {
-    Ok(Expr::Prefix(at, op, Box::new(alloc, a)?))
+    let a = a.boxed(alloc)?;
+    Ok(Expr::new(c_tree::Expr::Prefix(at, op, a.open())))
 }
 
 /// `sizeof a`
@@ -127,7 +134,8 @@ pub fn prefix(alloc: Global, at: At, op: PrefixOp, a: Expr) -> Result<Expr, Allo
 pub fn sizeof_expr(alloc: Global, at: At, a: Expr) -> Result<Expr, AllocError>
     ensures { IfOk result (λ e. shown e ≡ marked.SizeofExpr at (shown a)) }
 {
-    Ok(Expr::SizeofExpr(at, Box::new(alloc, a)?))
+    let a = a.boxed(alloc)?;
+    Ok(Expr::new(c_tree::Expr::SizeofExpr(at, a.open())))
 }
 
 /// `a++` or `a--`
@@ -135,7 +143,8 @@ pub fn sizeof_expr(alloc: Global, at: At, a: Expr) -> Result<Expr, AllocError>
 pub fn post(alloc: Global, at: At, a: Expr, op: Step) -> Result<Expr, AllocError>
     ensures { IfOk result (λ e. shown e ≡ marked.Post at (shown a) (view_step op)) }
 {
-    Ok(Expr::Post(at, Box::new(alloc, a)?, op))
+    let a = a.boxed(alloc)?;
+    Ok(Expr::new(c_tree::Expr::Post(at, a.open(), op)))
 }
 
 /// `a.name`
@@ -143,9 +152,9 @@ pub fn post(alloc: Global, at: At, a: Expr, op: Step) -> Result<Expr, AllocError
 pub fn dot(alloc: Global, at: At, a: Expr, name: &[u8]) -> Result<Expr, AllocError>
     ensures { IfOk result (λ e. shown e ≡ marked.Dot at (shown a) name.now) }
 {
-    let a = Box::new(alloc, a)?;
     let name = Items::from_slice(alloc, name)?;
-    Ok(Expr::Dot(at, a, name))
+    let a = a.boxed(alloc)?;
+    Ok(Expr::new(c_tree::Expr::Dot(at, a.open(), name)))
 }
 
 /// `a->name`
@@ -153,59 +162,64 @@ pub fn dot(alloc: Global, at: At, a: Expr, name: &[u8]) -> Result<Expr, AllocErr
 pub fn arrow(alloc: Global, at: At, a: Expr, name: &[u8]) -> Result<Expr, AllocError>
     ensures { IfOk result (λ e. shown e ≡ marked.Arrow at (shown a) name.now) }
 {
-    let a = Box::new(alloc, a)?;
     let name = Items::from_slice(alloc, name)?;
-    Ok(Expr::Arrow(at, a, name))
+    let a = a.boxed(alloc)?;
+    Ok(Expr::new(c_tree::Expr::Arrow(at, a.open(), name)))
 }
 
 /// The arguments with one more.
-pub fn with_argument(mut args: Items<Expr>, a: Expr) -> Result<Items<Expr>, AllocError>
+pub fn with_argument(args: Exprs, a: Expr) -> Result<Exprs, AllocError>
     ensures { IfOk result (λ xs. map shown xs ≡ map shown args ++ shown a ∷ []) }
 {
-    args.push(a)?;
-    Ok(args)
+    args.with(a.open())
 }
 
 /// `f(args)`
-pub fn call(alloc: Global, at: At, f: Expr, args: Items<Expr>) -> Result<Expr, NoMemory>
+pub fn call(alloc: Global, at: At, f: Expr, args: Exprs) -> Result<Expr, AllocError>
     ensures { IfOk result (λ e. shown e ≡ marked.Call at (shown f) (reader.exprs_of (map shown args))) }
 {
-    make::call(alloc, at, f, args)
+    let f = f.boxed(alloc)?;
+    Ok(Expr::new(raw::call(at, f.open(), args.open())))
 }
 
 /// `__builtin_infer_alloc_token(args)`
-pub fn builtin(at: At, args: Items<Expr>) -> Expr
+pub fn builtin(at: At, args: Exprs) -> Expr
     ensures { shown result ≡ marked.Builtin at (reader.exprs_of (map shown args)) }
 {
-    make::builtin(at, args)
+    Expr::new(raw::builtin(at, args.open()))
 }
 
 /// `(ty) a`
-#[tactic(auto, unfolding(crate::specs::Shown::shown, crate::specs::Shown::shown_type))]
-pub fn cast(alloc: Global, at: At, ty: TypeName, a: Expr) -> Result<Expr, NoMemory>
+pub fn cast(alloc: Global, at: At, ty: TypeName, a: Expr) -> Result<Expr, AllocError>
     ensures { IfOk result (λ e. shown e ≡ marked.Cast at (shown_type ty) (shown a)) }
 {
-    make::cast(alloc, at, ty, a)
+    let ty = ty.boxed(alloc)?;
+    let a = a.boxed(alloc)?;
+    Ok(Expr::new(raw::cast(at, ty.open(), a.open())))
 }
 
 /// `sizeof (ty)`
-#[tactic(auto, unfolding(crate::specs::Shown::shown, crate::specs::Shown::shown_type))]
-pub fn sizeof_type(alloc: Global, at: At, ty: TypeName) -> Result<Expr, NoMemory>
+pub fn sizeof_type(alloc: Global, at: At, ty: TypeName) -> Result<Expr, AllocError>
     ensures { IfOk result (λ e. shown e ≡ marked.SizeofType at (shown_type ty)) }
 {
-    make::sizeof_type(alloc, at, ty)
+    let ty = ty.boxed(alloc)?;
+    Ok(Expr::new(raw::sizeof_type(at, ty.open())))
 }
 
 /// A type name.
 #[tactic(auto, unfolding(crate::specs::Shown::shown_type, crate::specs::Shown::shown_specs, crate::specs::Shown::shown_maybe_declarator))]
-pub fn type_name(at: At, specs: Items<Spec>, declarator: Option<Box<Declarator>>) -> TypeName
+pub fn type_name(at: At, specs: Specs, declarator: Option<DeclaratorBox>) -> TypeName
     ensures { shown_type result ≡ marked.type_name at (shown_specs specs) (shown_maybe_declarator declarator) }
 {
-    TypeName {
+    let declarator = match declarator {
+        Some(d) => Some(d.open()),
+        None => None,
+    };
+    TypeName::new(c_tree::TypeName {
         at,
-        specs,
+        specs: specs.open(),
         declarator,
-    }
+    })
 }
 
 /// An expression that is absent.

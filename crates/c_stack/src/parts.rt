@@ -6,12 +6,17 @@ ghost use Rattle.c_tree.specs.Marked as marked;
 ghost use Rattle.c_tree.specs.View.{view_keyword, view_qualifier};
 ghost use Rattle.c_stack.specs.Shown.{shown, shown_argument, shown_attribute, shown_declarator, shown_entry, shown_enumerator, shown_field, shown_maybe_declarator, shown_param, shown_qualifiers, shown_spec, shown_specs, shown_value};
 
+use crate::raw;
+use c_held::{
+    Arguments, Attributes, Declarator, DeclaratorBox, Declarators, Entries, Enumerators, Expr,
+    ExprBox, Fields, Params, Specs,
+};
 use c_tree::{
-    At, Attribute, AttributeArgument, Declarator, Entry, Enumerator, EnumeratorList, Expr, Field,
-    Keyword, Param, Qualifier, Spec, make,
+    At, Attribute, AttributeArgument, Entry, Enumerator, Field, Keyword, Param, Qualifier, Spec,
+    make,
 };
 use std::alloc::{AllocError, Global};
-use tok_base::{Bytes, Items, NoMemory};
+use tok_base::{Bytes, Items};
 
 // ---- declarators
 
@@ -20,7 +25,8 @@ use tok_base::{Bytes, Items, NoMemory};
 pub fn declared(alloc: Global, at: At, text: &[u8]) -> Result<Declarator, AllocError>
     ensures { IfOk result (λ d. shown_declarator d ≡ marked.Declared at (Some text.now)) }
 {
-    Ok(Declarator::Declared(at, Some(Items::from_slice(alloc, text)?)))
+    let name = Items::from_slice(alloc, text)?;
+    Ok(Declarator::new(c_tree::Declarator::Declared(at, Some(name))))
 }
 
 /// A name that is absent.
@@ -28,7 +34,7 @@ pub fn declared(alloc: Global, at: At, text: &[u8]) -> Result<Declarator, AllocE
 pub fn nameless(at: At) -> Declarator
     ensures { shown_declarator result ≡ marked.Declared at None }
 {
-    Declarator::Declared(at, None)
+    Declarator::new(c_tree::Declarator::Declared(at, None))
 }
 
 /// `* qualifiers d`
@@ -41,7 +47,8 @@ pub fn pointer_to(
 ) -> Result<Declarator, AllocError>
     ensures { IfOk result (λ p. shown_declarator p ≡ marked.PointerTo at (shown_qualifiers qualifiers) (shown_declarator d)) }
 {
-    Ok(Declarator::PointerTo(at, qualifiers, Box::new(alloc, d)?))
+    let d = d.boxed(alloc)?;
+    Ok(Declarator::new(c_tree::Declarator::PointerTo(at, qualifiers, d.open())))
 }
 
 /// The qualifiers with one more.
@@ -69,7 +76,8 @@ pub fn no_qualifiers(alloc: Global) -> Items<Qualifier>
 pub fn group(alloc: Global, at: At, d: Declarator) -> Result<Declarator, AllocError>
     ensures { IfOk result (λ g. shown_declarator g ≡ marked.Group at (shown_declarator d)) }
 {
-    Ok(Declarator::Group(at, Box::new(alloc, d)?))
+    let d = d.boxed(alloc)?;
+    Ok(Declarator::new(c_tree::Declarator::Group(at, d.open())))
 }
 
 /// `d[]`
@@ -77,7 +85,8 @@ pub fn group(alloc: Global, at: At, d: Declarator) -> Result<Declarator, AllocEr
 pub fn open_array(alloc: Global, at: At, d: Declarator) -> Result<Declarator, AllocError>
     ensures { IfOk result (λ g. shown_declarator g ≡ marked.ArrayOf at (shown_declarator d) marked.no_expr) }
 {
-    Ok(Declarator::ArrayOf(at, Box::new(alloc, d)?, None))
+    let d = d.boxed(alloc)?;
+    Ok(Declarator::new(c_tree::Declarator::ArrayOf(at, d.open(), None)))
 }
 
 /// `d[a]`
@@ -85,9 +94,9 @@ pub fn open_array(alloc: Global, at: At, d: Declarator) -> Result<Declarator, Al
 pub fn array_of(alloc: Global, at: At, d: Declarator, a: Expr) -> Result<Declarator, AllocError>
     ensures { IfOk result (λ g. shown_declarator g ≡ marked.ArrayOf at (shown_declarator d) (marked.some_expr (shown a))) }
 {
-    let d = Box::new(alloc, d)?;
-    let a = Box::new(alloc, a)?;
-    Ok(Declarator::ArrayOf(at, d, Some(a)))
+    let d = d.boxed(alloc)?;
+    let a = a.boxed(alloc)?;
+    Ok(Declarator::new(c_tree::Declarator::ArrayOf(at, d.open(), Some(a.open()))))
 }
 
 /// `d(params)`
@@ -95,27 +104,24 @@ pub fn function_of(
     alloc: Global,
     at: At,
     d: Declarator,
-    params: Items<Param>,
-) -> Result<Declarator, NoMemory>
+    params: Params,
+) -> Result<Declarator, AllocError>
     ensures { IfOk result (λ f. shown_declarator f ≡ marked.FunctionOf at (shown_declarator d) (reader.params_of (map shown_param params))) }
 {
-    make::function_of(alloc, at, d, params)
+    let d = d.boxed(alloc)?;
+    Ok(Declarator::new(raw::function_of(at, d.open(), params.open())))
 }
 
 /// The declarators with one more.
-pub fn with_declarator(
-    mut declarators: Items<Declarator>,
-    d: Declarator,
-) -> Result<Items<Declarator>, AllocError>
+pub fn with_declarator(declarators: Declarators, d: Declarator) -> Result<Declarators, AllocError>
     ensures { IfOk result (λ ds. map shown_declarator ds ≡ map shown_declarator declarators ++ shown_declarator d ∷ []) }
 {
-    declarators.push(d)?;
-    Ok(declarators)
+    declarators.with(d.open())
 }
 
 /// A declarator that is absent.
 #[tactic(auto, unfolding(crate::specs::Shown::shown_maybe_declarator))]
-pub fn no_declarator() -> Option<Box<Declarator>>
+pub fn no_declarator() -> Option<DeclaratorBox>
     ensures { shown_maybe_declarator result ≡ marked.no_declarator }
 {
     None
@@ -123,30 +129,33 @@ pub fn no_declarator() -> Option<Box<Declarator>>
 
 /// A declarator that is there.
 #[tactic(auto, unfolding(crate::specs::Shown::shown_maybe_declarator, crate::specs::Shown::shown_declarator))]
-pub fn some_declarator(alloc: Global, d: Declarator) -> Result<Option<Box<Declarator>>, AllocError>
+pub fn some_declarator(alloc: Global, d: Declarator) -> Result<Option<DeclaratorBox>, AllocError>
     ensures { IfOk result (λ o. shown_maybe_declarator o ≡ marked.some_declarator (shown_declarator d)) }
 {
-    Ok(Some(Box::new(alloc, d)?))
+    Ok(Some(d.boxed(alloc)?))
 }
 
 /// A parameter.
 #[tactic(auto, unfolding(crate::specs::Shown::shown_param, crate::specs::Shown::shown_specs, crate::specs::Shown::shown_maybe_declarator))]
-pub fn param(at: At, specs: Items<Spec>, declarator: Option<Box<Declarator>>) -> Param
+pub fn param(at: At, specs: Specs, declarator: Option<DeclaratorBox>) -> Param
     ensures { shown_param result ≡ record { at = at; specs = shown_specs specs; declarator = shown_maybe_declarator declarator } }
 {
+    let declarator = match declarator {
+        Some(d) => Some(d.open()),
+        None => None,
+    };
     Param {
         at,
-        specs,
+        specs: specs.open(),
         declarator,
     }
 }
 
 /// The parameters with one more.
-pub fn with_param(mut params: Items<Param>, p: Param) -> Result<Items<Param>, AllocError>
+pub fn with_param(params: Params, p: Param) -> Result<Params, AllocError>
     ensures { IfOk result (λ ps. map shown_param ps ≡ map shown_param params ++ shown_param p ∷ []) }
 {
-    params.push(p)?;
-    Ok(params)
+    params.with(p)
 }
 
 // ---- specifiers
@@ -176,15 +185,14 @@ pub fn attribute_spec(attribute: Attribute) -> Spec
 }
 
 /// The specifiers with one more.
-pub fn with_spec(mut specs: Items<Spec>, s: Spec) -> Result<Items<Spec>, AllocError>
+pub fn with_spec(specs: Specs, s: Spec) -> Result<Specs, AllocError>
     ensures { IfOk result (λ ss. map shown_spec ss ≡ map shown_spec specs ++ shown_spec s ∷ []) }
 {
-    specs.push(s)?;
-    Ok(specs)
+    specs.with(s)
 }
 
 /// The specifiers, which are all read.
-pub fn all_specs(specs: Items<Spec>) -> Items<Spec>
+pub fn all_specs(specs: Specs) -> Specs
     ensures { shown_specs result ≡ reader.specs_of (map shown_spec specs) }
 {
     specs
@@ -198,10 +206,10 @@ pub fn record_tag(at: At, is_union: bool, tag: Bytes) -> Spec
 }
 
 /// `struct tag { fields }` or `union tag { fields }`, perhaps without a tag
-pub fn record(at: At, is_union: bool, tag: Option<Bytes>, fields: Items<Field>) -> Spec
+pub fn record(at: At, is_union: bool, tag: Option<Bytes>, fields: Fields) -> Spec
     ensures { shown_spec result ≡ reader.records at is_union tag (marked.body (reader.fields_of (map shown_field fields))) }
 {
-    make::record(at, is_union, tag, Some(fields))
+    raw::record(at, is_union, tag, fields.open())
 }
 
 /// `enum tag`
@@ -212,35 +220,29 @@ pub fn enum_tag(at: At, tag: Bytes) -> Spec
 }
 
 /// `enum tag { list }`, perhaps without a tag, and with a comma behind the list where it has one
-pub fn enumeration(at: At, tag: Option<Bytes>, list: Items<Enumerator>, has_comma: bool) -> Spec
+pub fn enumeration(at: At, tag: Option<Bytes>, list: Enumerators, has_comma: bool) -> Spec
     ensures { shown_spec result ≡ reader.enums at tag (marked.list (reader.enumerators_of (map shown_enumerator list)) has_comma) }
 {
-    make::enumeration(at, tag, Some(make::enumerator_list(list, has_comma)))
+    raw::enumeration(at, tag, list.open(), has_comma)
 }
 
 /// A field of a record.
-#[tactic(auto, unfolding(crate::specs::Shown::shown_field, crate::specs::Shown::shown_specs))]
-pub fn field(at: At, specs: Items<Spec>, declarators: Items<Declarator>) -> Field
+pub fn field(at: At, specs: Specs, declarators: Declarators) -> Field
     ensures { shown_field result ≡ record { at = at; specs = shown_specs specs; declarators = reader.declarators_of (map shown_declarator declarators) } }
 {
-    Field {
-        at,
-        specs,
-        declarators,
-    }
+    raw::field(at, specs.open(), declarators.open())
 }
 
 /// The fields with one more.
-pub fn with_field(mut fields: Items<Field>, f: Field) -> Result<Items<Field>, AllocError>
+pub fn with_field(fields: Fields, f: Field) -> Result<Fields, AllocError>
     ensures { IfOk result (λ fs. map shown_field fs ≡ map shown_field fields ++ shown_field f ∷ []) }
 {
-    fields.push(f)?;
-    Ok(fields)
+    fields.with(f)
 }
 
 /// The value of an enumerator that has none.
 #[tactic(auto, unfolding(crate::specs::Shown::shown_value))]
-pub fn no_value() -> Option<Box<Expr>>
+pub fn no_value() -> Option<ExprBox>
     ensures { shown_value result ≡ marked.no_expr }
 {
     None
@@ -248,29 +250,29 @@ pub fn no_value() -> Option<Box<Expr>>
 
 /// The value of an enumerator.
 #[tactic(auto, unfolding(crate::specs::Shown::shown_value, crate::specs::Shown::shown))]
-pub fn some_value(alloc: Global, a: Expr) -> Result<Option<Box<Expr>>, AllocError>
+pub fn some_value(alloc: Global, a: Expr) -> Result<Option<ExprBox>, AllocError>
     ensures { IfOk result (λ v. shown_value v ≡ marked.some_expr (shown a)) }
 {
-    Ok(Some(Box::new(alloc, a)?))
+    Ok(Some(a.boxed(alloc)?))
 }
 
 /// An enumerator.
 #[tactic(auto, unfolding(crate::specs::Shown::shown_enumerator, crate::specs::Shown::shown_value))]
-pub fn enumerator(at: At, name: Bytes, value: Option<Box<Expr>>) -> Enumerator
+pub fn enumerator(at: At, name: Bytes, value: Option<ExprBox>) -> Enumerator
     ensures { shown_enumerator result ≡ record { at = at; name = name; value = shown_value value } }
 {
+    let value = match value {
+        Some(a) => Some(a.open()),
+        None => None,
+    };
     Enumerator { at, name, value }
 }
 
 /// The enumerators with one more.
-pub fn with_enumerator(
-    mut list: Items<Enumerator>,
-    e: Enumerator,
-) -> Result<Items<Enumerator>, AllocError>
+pub fn with_enumerator(list: Enumerators, e: Enumerator) -> Result<Enumerators, AllocError>
     ensures { IfOk result (λ es. map shown_enumerator es ≡ map shown_enumerator list ++ shown_enumerator e ∷ []) }
 {
-    list.push(e)?;
-    Ok(list)
+    list.with(e)
 }
 
 // ---- attributes
@@ -293,58 +295,50 @@ pub fn text_argument(at: At, pieces: Items<Bytes>) -> AttributeArgument
 
 /// The arguments of an entry with one more.
 pub fn with_entry_argument(
-    mut arguments: Items<AttributeArgument>,
+    arguments: Arguments,
     x: AttributeArgument,
-) -> Result<Items<AttributeArgument>, AllocError>
+) -> Result<Arguments, AllocError>
     ensures { IfOk result (λ xs. map shown_argument xs ≡ map shown_argument arguments ++ shown_argument x ∷ []) }
 {
-    arguments.push(x)?;
-    Ok(arguments)
+    arguments.with(x)
 }
 
 /// The entries with one more, which has no arguments.
 #[tactic(auto, unfolding(crate::specs::Shown::shown_entry))]
-pub fn with_plain_entry(mut entries: Items<Entry>, name: Bytes) -> Result<Items<Entry>, AllocError>
+pub fn with_plain_entry(entries: Entries, name: Bytes) -> Result<Entries, AllocError>
     ensures { IfOk result (λ es. map shown_entry es ≡ map shown_entry entries ++ record { name = name; arguments = None } ∷ []) }
 {
-    entries.push(Entry {
+    entries.with(Entry {
         name,
         arguments: None,
-    })?;
-    Ok(entries)
+    })
 }
 
 /// The entries with one more, which has these arguments.
-#[tactic(auto, unfolding(crate::specs::Shown::shown_entry, crate::specs::Shown::shown_argument))]
 pub fn with_entry(
-    mut entries: Items<Entry>,
+    entries: Entries,
     name: Bytes,
-    arguments: Items<AttributeArgument>,
-) -> Result<Items<Entry>, AllocError>
+    arguments: Arguments,
+) -> Result<Entries, AllocError>
     ensures { IfOk result (λ es. map shown_entry es ≡ map shown_entry entries ++ record { name = name; arguments = Some (map shown_argument arguments) } ∷ []) }
 {
-    entries.push(Entry {
-        name,
-        arguments: Some(arguments),
-    })?;
-    Ok(entries)
+    entries.with(raw::entry(name, arguments.open()))
 }
 
 /// An attribute with these entries.
 #[tactic(auto, unfolding(crate::specs::Shown::shown_attribute, crate::specs::Shown::shown_entry))]
-pub fn attribute(at: At, entries: Items<Entry>) -> Attribute
+pub fn attribute(at: At, entries: Entries) -> Attribute
     ensures { shown_attribute result ≡ record { at = at; entries = map shown_entry entries } }
 {
-    Attribute { at, entries }
+    Attribute {
+        at,
+        entries: entries.open(),
+    }
 }
 
 /// The attributes with one more.
-pub fn with_attribute(
-    mut attributes: Items<Attribute>,
-    a: Attribute,
-) -> Result<Items<Attribute>, AllocError>
+pub fn with_attribute(attributes: Attributes, a: Attribute) -> Result<Attributes, AllocError>
     ensures { IfOk result (λ xs. map shown_attribute xs ≡ map shown_attribute attributes ++ shown_attribute a ∷ []) }
 {
-    attributes.push(a)?;
-    Ok(attributes)
+    attributes.with(a)
 }

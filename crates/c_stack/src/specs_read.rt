@@ -11,9 +11,9 @@ ghost use Rattle.c_stack.specs.Views.{view_open, view_specs_read};
 
 use crate::inside::{Open, SpecsRead};
 use crate::parts::{attribute_spec, keyword, with_spec};
+use c_held::Specs;
 use c_tree::{Attribute, Keyword, Spec};
 use std::alloc::{AllocError, Global};
-use tok_base::Items;
 
 /// Whether it specifies a type (ISO/IEC 9899:2018, 6.7.2).
 fn is_specifier(word: Keyword) -> bool
@@ -54,7 +54,7 @@ impl SpecsRead {
     {
         SpecsRead {
             node,
-            specs: Items::new(alloc),
+            specs: Specs::new(alloc),
             seen: false,
             typedef: false,
         }
@@ -66,9 +66,10 @@ impl SpecsRead {
     {
         let seen = self.seen || is_specifier(word);
         let typedef = self.typedef || is_typedef(word);
+        let specs = with_spec(self.specs, word_spec(word))?;
         Ok(SpecsRead {
             node: self.node,
-            specs: with_spec(self.specs, word_spec(word))?,
+            specs,
             seen,
             typedef,
         })

@@ -5,10 +5,12 @@ ghost use Rattle.c_reader.specs.MarkedParts as reader;
 ghost use Rattle.c_tree.specs.Marked as marked;
 ghost use Rattle.c_stack.specs.Shown.{shown, shown_attribute, shown_block_item, shown_declaration, shown_declarator, shown_external, shown_first, shown_init, shown_item, shown_maybe, shown_maybe_init, shown_specs, shown_stmt};
 
-use c_tree::{
-    At, Attribute, Block, BlockItem, Declaration, Declarator, Definition, Expr, External, ForFirst,
-    Init, Item, Spec, Stmt, make,
+use crate::raw;
+use c_held::{
+    Attributes, BlockItems, Declarator, DeclaredItems, Expr, Externals, ForFirst, Init, Inits,
+    Specs, Stmt,
 };
+use c_tree::{At, BlockItem, Declaration, External, Item};
 use std::alloc::{AllocError, Global};
 use tok_base::Items;
 
@@ -19,22 +21,21 @@ use tok_base::Items;
 pub fn plain_init(a: Expr) -> Init
     ensures { shown_init result ≡ marked.Plain (shown a) }
 {
-    Init::Expr(a)
+    Init::new(c_tree::Init::Expr(a.open()))
 }
 
 /// `{ list }`, with a comma behind the list where it has one
-pub fn braces(at: At, list: Items<Init>, has_comma: bool) -> Init
+pub fn braces(at: At, list: Inits, has_comma: bool) -> Init
     ensures { shown_init result ≡ marked.Braces at (reader.inits_of (map shown_init list)) has_comma }
 {
-    make::braces(at, list, has_comma)
+    Init::new(raw::braces(at, list.open(), has_comma))
 }
 
 /// The initialisers with one more.
-pub fn with_init(mut list: Items<Init>, i: Init) -> Result<Items<Init>, AllocError>
+pub fn with_init(list: Inits, i: Init) -> Result<Inits, AllocError>
     ensures { IfOk result (λ is. map shown_init is ≡ map shown_init list ++ shown_init i ∷ []) }
 {
-    list.push(i)?;
-    Ok(list)
+    list.with(i.open())
 }
 
 /// The initialiser of an item that has none.
@@ -55,45 +56,57 @@ pub fn some_init(i: Init) -> Option<Init>
 
 /// An item of a declaration.
 #[tactic(auto, unfolding(crate::specs::Shown::shown_item, crate::specs::Shown::shown_declarator, crate::specs::Shown::shown_attribute, crate::specs::Shown::shown_maybe_init))]
-pub fn item(
-    at: At,
-    declarator: Declarator,
-    attributes: Items<Attribute>,
-    init: Option<Init>,
-) -> Item
+pub fn item(at: At, declarator: Declarator, attributes: Attributes, init: Option<Init>) -> Item
     ensures { shown_item result ≡ record { at = at; declarator = shown_declarator declarator; attributes = map shown_attribute attributes; init = shown_maybe_init init } }
 {
+    let init = match init {
+        Some(i) => Some(i.open()),
+        None => None,
+    };
     Item {
         at,
-        declarator,
-        attributes,
+        declarator: declarator.open(),
+        attributes: attributes.open(),
         init,
     }
 }
 
 /// The items with one more.
-pub fn with_item(mut items: Items<Item>, i: Item) -> Result<Items<Item>, AllocError>
+pub fn with_item(items: DeclaredItems, i: Item) -> Result<DeclaredItems, AllocError>
     ensures { IfOk result (λ is. map shown_item is ≡ map shown_item items ++ shown_item i ∷ []) }
 {
-    items.push(i)?;
-    Ok(items)
+    items.with(i)
 }
 
 /// A declaration.
 #[tactic(auto, unfolding(crate::specs::Shown::shown_declaration, crate::specs::Shown::shown_specs, crate::specs::Shown::shown_item))]
-pub fn declaration(at: At, specs: Items<Spec>, items: Items<Item>) -> Declaration
+pub fn declaration(at: At, specs: Specs, items: DeclaredItems) -> Declaration
     ensures { shown_declaration result ≡ record { at = at; specs = shown_specs specs; items = map shown_item items } }
 {
-    Declaration { at, specs, items }
+    Declaration {
+        at,
+        specs: specs.open(),
+        items: items.open(),
+    }
 }
 
 // ---- statements
 
+/// The expression, if there is one, as a part of a tree.
+fn opened(a: Option<Expr>) -> Option<c_tree::Expr>
+    ensures { result ≡ a }
+{
+    match a {
+        Some(a) => Some(a.open()),
+        None => None,
+    }
+}
+
 /// `{ items }`
-pub fn block(at: At, items: Items<BlockItem>) -> Stmt
+pub fn block(at: At, items: BlockItems) -> Stmt
     ensures { shown_stmt result ≡ marked.Block at (reader.items_of (map shown_block_item items)) }
 {
-    make::block(at, items)
+    Stmt::new(raw::block(at, items.open()))
 }
 
 /// A declaration as an item of a block.
@@ -109,18 +122,14 @@ pub fn declared_item(d: Declaration) -> BlockItem
 pub fn statement_item(s: Stmt) -> BlockItem
     ensures { shown_block_item result ≡ reader.statement (shown_stmt s) }
 {
-    BlockItem::Stmt(s)
+    BlockItem::Stmt(s.open())
 }
 
 /// The items of a block with one more.
-pub fn with_block_item(
-    mut items: Items<BlockItem>,
-    i: BlockItem,
-) -> Result<Items<BlockItem>, AllocError>
+pub fn with_block_item(items: BlockItems, i: BlockItem) -> Result<BlockItems, AllocError>
     ensures { IfOk result (λ is. map shown_block_item is ≡ map shown_block_item items ++ shown_block_item i ∷ []) }
 {
-    items.push(i)?;
-    Ok(items)
+    items.with(i)
 }
 
 /// `;`
@@ -128,7 +137,7 @@ pub fn with_block_item(
 pub fn empty(at: At) -> Stmt
     ensures { shown_stmt result ≡ marked.ExprStmt at marked.no_expr }
 {
-    Stmt::Expr(at, None)
+    Stmt::new(c_tree::Stmt::Expr(at, None))
 }
 
 /// `a;`
@@ -136,7 +145,7 @@ pub fn empty(at: At) -> Stmt
 pub fn plain(at: At, a: Expr) -> Stmt
     ensures { shown_stmt result ≡ marked.ExprStmt at (marked.some_expr (shown a)) }
 {
-    Stmt::Expr(at, Some(a))
+    Stmt::new(c_tree::Stmt::Expr(at, Some(a.open())))
 }
 
 /// `if (c) s`
@@ -144,8 +153,8 @@ pub fn plain(at: At, a: Expr) -> Stmt
 pub fn if_(alloc: Global, at: At, c: Expr, s: Stmt) -> Result<Stmt, AllocError>
     ensures { IfOk result (λ x. shown_stmt x ≡ marked.If at (shown c) (shown_stmt s)) }
 {
-    let s = Box::new(alloc, s)?;
-    Ok(Stmt::If(at, c, s))
+    let s = s.boxed(alloc)?;
+    Ok(Stmt::new(c_tree::Stmt::If(at, c.open(), s.open())))
 }
 
 /// `if (c) s else t`
@@ -153,9 +162,9 @@ pub fn if_(alloc: Global, at: At, c: Expr, s: Stmt) -> Result<Stmt, AllocError>
 pub fn if_else(alloc: Global, at: At, c: Expr, s: Stmt, t: Stmt) -> Result<Stmt, AllocError>
     ensures { IfOk result (λ x. shown_stmt x ≡ marked.IfElse at (shown c) (shown_stmt s) (shown_stmt t)) }
 {
-    let s = Box::new(alloc, s)?;
-    let t = Box::new(alloc, t)?;
-    Ok(Stmt::IfElse(at, c, s, t))
+    let s = s.boxed(alloc)?;
+    let t = t.boxed(alloc)?;
+    Ok(Stmt::new(c_tree::Stmt::IfElse(at, c.open(), s.open(), t.open())))
 }
 
 /// `while (c) s`
@@ -163,8 +172,8 @@ pub fn if_else(alloc: Global, at: At, c: Expr, s: Stmt, t: Stmt) -> Result<Stmt,
 pub fn while_(alloc: Global, at: At, c: Expr, s: Stmt) -> Result<Stmt, AllocError>
     ensures { IfOk result (λ x. shown_stmt x ≡ marked.While at (shown c) (shown_stmt s)) }
 {
-    let s = Box::new(alloc, s)?;
-    Ok(Stmt::While(at, c, s))
+    let s = s.boxed(alloc)?;
+    Ok(Stmt::new(c_tree::Stmt::While(at, c.open(), s.open())))
 }
 
 /// `do s while (c);`
@@ -172,8 +181,8 @@ pub fn while_(alloc: Global, at: At, c: Expr, s: Stmt) -> Result<Stmt, AllocErro
 pub fn do_while(alloc: Global, at: At, s: Stmt, c: Expr) -> Result<Stmt, AllocError>
     ensures { IfOk result (λ x. shown_stmt x ≡ marked.Do at (shown_stmt s) (shown c)) }
 {
-    let s = Box::new(alloc, s)?;
-    Ok(Stmt::Do(at, s, c))
+    let s = s.boxed(alloc)?;
+    Ok(Stmt::new(c_tree::Stmt::Do(at, s.open(), c.open())))
 }
 
 /// `for (first c; step) s`, where the first part has its semicolon
@@ -188,8 +197,10 @@ pub fn for_(
 ) -> Result<Stmt, AllocError>
     ensures { IfOk result (λ x. shown_stmt x ≡ marked.For at (shown_first first) (shown_maybe c) (shown_maybe step) (shown_stmt s)) }
 {
-    let s = Box::new(alloc, s)?;
-    Ok(Stmt::For(at, first, c, step, s))
+    let s = s.boxed(alloc)?;
+    let c = opened(c);
+    let step = opened(step);
+    Ok(Stmt::new(c_tree::Stmt::For(at, first.open(), c, step, s.open())))
 }
 
 /// A declaration as the first part of `for`.
@@ -197,7 +208,7 @@ pub fn for_(
 pub fn first_declaration(d: Declaration) -> ForFirst
     ensures { shown_first result ≡ marked.FirstDeclaration (shown_declaration d) }
 {
-    ForFirst::Declaration(d)
+    ForFirst::new(c_tree::ForFirst::Declaration(d))
 }
 
 /// An expression, which may be absent, as the first part of `for`.
@@ -205,7 +216,7 @@ pub fn first_declaration(d: Declaration) -> ForFirst
 pub fn first_expr(a: Option<Expr>) -> ForFirst
     ensures { shown_first result ≡ marked.FirstExpr (shown_maybe a) }
 {
-    ForFirst::Expr(a)
+    ForFirst::new(c_tree::ForFirst::Expr(opened(a)))
 }
 
 /// `break;`
@@ -213,7 +224,7 @@ pub fn first_expr(a: Option<Expr>) -> ForFirst
 pub fn break_(at: At) -> Stmt
     ensures { shown_stmt result ≡ marked.Break at }
 {
-    Stmt::Break(at)
+    Stmt::new(c_tree::Stmt::Break(at))
 }
 
 /// `continue;`
@@ -221,7 +232,7 @@ pub fn break_(at: At) -> Stmt
 pub fn continue_(at: At) -> Stmt
     ensures { shown_stmt result ≡ marked.Continue at }
 {
-    Stmt::Continue(at)
+    Stmt::new(c_tree::Stmt::Continue(at))
 }
 
 /// `return a;` or `return;`
@@ -229,7 +240,7 @@ pub fn continue_(at: At) -> Stmt
 pub fn return_(at: At, a: Option<Expr>) -> Stmt
     ensures { shown_stmt result ≡ marked.Return at (shown_maybe a) }
 {
-    Stmt::Return(at, a)
+    Stmt::new(c_tree::Stmt::Return(at, opened(a)))
 }
 
 // ---- the unit
@@ -245,26 +256,19 @@ pub fn declares(d: Declaration) -> External
 /// `specs declarator { items }`
 pub fn defines(
     at: At,
-    specs: Items<Spec>,
+    specs: Specs,
     declarator: Declarator,
     body_at: At,
-    items: Items<BlockItem>,
+    items: BlockItems,
 ) -> External
     ensures { shown_external result ≡ marked.Definition at (shown_specs specs) (shown_declarator declarator) body_at (reader.items_of (map shown_block_item items)) }
 {
-    let body = Block { at: body_at, items };
-    External::Definition(Definition {
-        at,
-        specs,
-        declarator,
-        body,
-    })
+    raw::defines(at, specs.open(), declarator.open(), body_at, items.open())
 }
 
 /// The external declarations with one more.
-pub fn with_external(mut done: Items<External>, x: External) -> Result<Items<External>, AllocError>
+pub fn with_external(done: Externals, x: External) -> Result<Externals, AllocError>
     ensures { IfOk result (λ xs. map shown_external xs ≡ map shown_external done ++ shown_external x ∷ []) }
 {
-    done.push(x)?;
-    Ok(done)
+    done.with(x)
 }

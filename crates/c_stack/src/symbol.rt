@@ -2,7 +2,8 @@
 
 ghost use Rattle.std.specs.Prelude.{◌≡◌};
 ghost use Rattle.c_reader.specs.Symbol as spec;
-ghost use Rattle.c_stack.specs.Seen.{seen, view_symbol};
+ghost use Rattle.c_reader.specs.Declarations as items;
+ghost use Rattle.c_stack.specs.Seen.{seen, view_operator, view_symbol};
 ghost use Rattle.c_stack.specs.Chunks as chunk;
 
 use c_tree::{AssignOp, BinaryOp, Keyword, Step};
@@ -78,6 +79,16 @@ pub enum Symbol<'a> {
     RightBrace,
     Comma,
     Semicolon,
+}
+
+/// Whether it is `=`.
+pub fn is_equals(o: Operator) -> bool
+    ensures { result ≡ items.is_equals (view_operator o) }
+{
+    match o {
+        Operator::Assign(AssignOp::Set) => true,
+        _ => false,
+    }
 }
 
 fn first_words<'a>(text: &[u8]) -> Option<Symbol<'a>>

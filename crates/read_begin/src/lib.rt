@@ -2,12 +2,10 @@
 //! that the reader of each form uses.
 #![tactic(auto)]
 
-mod numbers;
 mod on_begin;
 mod operators;
 mod statement_part;
 
-pub use numbers::{ending, refuse};
-pub use on_begin::{begin_specs, begins_specs, first_spec, is_equals, open_spec, want};
+pub use on_begin::{begin_specs, begins_specs, first_spec, open_spec, want};
 pub use operators::{Reduced, reduce};
 pub use statement_part::close_part;

@@ -5,7 +5,6 @@ ghost use Rattle.c_tree.specs.Marked as marked;
 ghost use Rattle.c_tree.specs.View.{view_op, view_prefix, view_step};
 ghost use Rattle.c_tree.specs.Wf.{Env, is_type};
 ghost use Rattle.c_reader.specs.Begin as machine;
-ghost use Rattle.c_reader.specs.Declarations as items;
 ghost use Rattle.c_reader.specs.MarkedBegin as begin;
 ghost use Rattle.c_reader.specs.MarkedInside as reader;
 ghost use Rattle.c_reader.specs.MarkedParts as parts;
@@ -13,18 +12,19 @@ ghost use Rattle.c_reader.specs.Symbol.{keyword_word};
 ghost use Rattle.c_stack.specs.Gives.{Gives};
 ghost use Rattle.c_stack.specs.Seen.{view_keyword, view_negation, view_operator, view_symbol, view_tagged};
 ghost use Rattle.c_stack.specs.Shown.{shown};
-ghost use Rattle.c_stack.specs.Views.{view_in_expr, view_in_specs, view_specs_read};
+ghost use Rattle.c_stack.specs.Views.{view_expr_place, view_specs_place, view_specs_read};
 
+use c_held::Expr;
 use c_stack::inside::{
-    AttributeMode, ExprMode, Had, InAttribute, InExpr, InSpecs, Mode, Next, Open, Operand,
-    SpecsMode, SpecsRead,
+    AttributeMode, ExprMode, Had, InAttribute, Mode, Next, Open, Operand, SpecsMode, SpecsRead,
 };
 use c_stack::make::{character, mark, name, number};
 use c_stack::names::Names;
 use c_stack::parts::typedef_name;
+use c_stack::place::{ExprFrame, ExprPlace, SpecsPlace};
 use c_stack::step::{StepEnd, following};
 use c_stack::symbol::{Negation, Operator, Symbol, Tagged};
-use c_tree::{AssignOp, BinaryOp, Expr, Keyword, PrefixOp, Step};
+use c_tree::{BinaryOp, Keyword, PrefixOp, Step};
 use std::alloc::{AllocError, Global};
 use tok_base::{Bytes, Items, Span};
 
@@ -43,32 +43,22 @@ pub fn begins_specs(names: &Names, seen: bool, y: Symbol) -> bool
     }
 }
 
-/// Whether it is `=`.
-pub fn is_equals(o: Operator) -> bool
-    ensures { result ≡ items.is_equals (view_operator o) }
-{
-    match o {
-        Operator::Assign(AssignOp::Set) => true,
-        _ => false,
-    }
-}
-
 fn open_name(
     alloc: Global,
     id: u32,
     ss: SpecsRead,
-    k: Box<InSpecs>,
+    k: SpecsPlace,
     x: &[u8],
 ) -> Result<Next, StepEnd>
-    ensures { (env : Env) → Gives env result (reader.go_on id env (reader.specs (reader.in_specs (parts.add_type (view_specs_read ss) 0 (parts.typedef_name x.now)) (view_in_specs k.value)))) }
+    ensures { (env : Env) → Gives env result (reader.go_on id env (reader.specs (reader.in_specs (parts.add_type (view_specs_read ss) 0 (parts.typedef_name x.now)) (view_specs_place k)))) }
 {
     let s = typedef_name(alloc, x)?;
     let ss = ss.with_type(0, s)?;
     Ok(Next::at_specs(id, SpecsMode::InSpecs(ss, k)))
 }
 
-fn open_keyword(id: u32, ss: SpecsRead, k: Box<InSpecs>, word: Keyword) -> Result<Next, StepEnd>
-    ensures { (env : Env) → Gives env result (reader.go_on id env (reader.specs (reader.in_specs (parts.add_keyword (view_specs_read ss) (keyword_word (view_keyword word))) (view_in_specs k.value)))) }
+fn open_keyword(id: u32, ss: SpecsRead, k: SpecsPlace, word: Keyword) -> Result<Next, StepEnd>
+    ensures { (env : Env) → Gives env result (reader.go_on id env (reader.specs (reader.in_specs (parts.add_keyword (view_specs_read ss) (keyword_word (view_keyword word))) (view_specs_place k)))) }
 {
     let ss = ss.with_keyword(word)?;
     Ok(Next::at_specs(id, SpecsMode::InSpecs(ss, k)))
@@ -77,18 +67,18 @@ fn open_keyword(id: u32, ss: SpecsRead, k: Box<InSpecs>, word: Keyword) -> Resul
 fn open_tagged(
     id: u32,
     ss: SpecsRead,
-    k: Box<InSpecs>,
+    k: SpecsPlace,
     tagged: Tagged,
     span: Span,
 ) -> Result<Next, StepEnd>
-    ensures { (env : Env) → Gives env result (reader.go_on id env (reader.specs (reader.after_tagged (parts.opens (view_specs_read ss).node.level span.start) (view_tagged tagged) (view_specs_read ss) (view_in_specs k.value)))) }
+    ensures { (env : Env) → Gives env result (reader.go_on id env (reader.specs (reader.after_tagged (parts.opens (view_specs_read ss).node.level span.start) (view_tagged tagged) (view_specs_read ss) (view_specs_place k)))) }
 {
     let o = Open::at(ss.node.level, span.start)?;
     Ok(Next::at_specs(id, SpecsMode::AfterTagged(o, tagged, ss, k)))
 }
 
-fn open_attribute(id: u32, ss: SpecsRead, k: Box<InSpecs>, span: Span) -> Result<Next, StepEnd>
-    ensures { (env : Env) → Gives env result (reader.go_on id env (reader.in_attribute (parts.opens (view_specs_read ss).node.level span.start) reader.attribute_word (reader.of_specs (view_specs_read ss) (view_in_specs k.value)))) }
+fn open_attribute(id: u32, ss: SpecsRead, k: SpecsPlace, span: Span) -> Result<Next, StepEnd>
+    ensures { (env : Env) → Gives env result (reader.go_on id env (reader.in_attribute (parts.opens (view_specs_read ss).node.level span.start) reader.attribute_word (reader.of_specs (view_specs_read ss) (view_specs_place k)))) }
 {
     let o = Open::at(ss.node.level, span.start)?;
     Ok(Next {
@@ -103,11 +93,11 @@ pub fn open_spec(
     alloc: Global,
     id: u32,
     ss: SpecsRead,
-    k: Box<InSpecs>,
+    k: SpecsPlace,
     y: Symbol,
     span: Span,
 ) -> Result<Next, StepEnd>
-    ensures { (env : Env) → Gives env result (begin.open_spec id env (view_specs_read ss) (view_in_specs k.value) (view_symbol y.entry) span) }
+    ensures { (env : Env) → Gives env result (begin.open_spec id env (view_specs_read ss) (view_specs_place k) (view_symbol y.entry) span) }
 {
     match y {
         Symbol::Name(x) => open_name(alloc, id, ss, k, x),
@@ -122,13 +112,13 @@ pub fn open_spec(
 pub fn begin_specs(
     alloc: Global,
     id: u32,
-    k: Box<InSpecs>,
+    k: SpecsPlace,
     y: Symbol,
     span: Span,
 ) -> Result<Next, StepEnd>
-    ensures { (env : Env) → Gives env result (begin.begin_specs id env (view_in_specs k.value) (view_symbol y.entry) span) }
+    ensures { (env : Env) → Gives env result (begin.begin_specs id env (view_specs_place k) (view_symbol y.entry) span) }
 {
-    let o = Open::at(k.level(), span.start)?;
+    let o = Open::at(k.get().level(), span.start)?;
     open_spec(alloc, id, SpecsRead::none(alloc, o), k, y, span)
 }
 
@@ -137,11 +127,11 @@ pub fn first_spec(
     alloc: Global,
     names: &Names,
     id: u32,
-    k: Box<InSpecs>,
+    k: SpecsPlace,
     y: Symbol,
     span: Span,
 ) -> Result<Next, StepEnd>
-    ensures { Gives names.now result (begin.first_spec id names.now (view_in_specs k.value) (view_symbol y.entry) span) }
+    ensures { Gives names.now result (begin.first_spec id names.now (view_specs_place k) (view_symbol y.entry) span) }
 {
     if begins_specs(names, false, y) {
         begin_specs(alloc, id, k, y, span)
@@ -200,25 +190,25 @@ pub fn operator_prefix(op: Operator) -> Option<PrefixOp>
 fn want_operand(
     alloc: Global,
     id: u32,
-    k: Box<InExpr>,
+    k: ExprPlace,
     op: Option<PrefixOp>,
     span: Span,
 ) -> Result<Next, StepEnd>
-    ensures { (env : Env) → Gives env result (begin.want_operand id env (view_in_expr k.value) (option_map view_prefix op) span) }
+    ensures { (env : Env) → Gives env result (begin.want_operand id env (view_expr_place k) (option_map view_prefix op) span) }
 {
     match op {
         None => Err(StepEnd::Wrong),
         Some(op) => {
-            let o = Open::at(k.around().level, span.start)?;
-            let place = Box::new(alloc, InExpr::Operand(o, Operand::Prefix(op), k))?;
+            let o = Open::at(k.get().around().level, span.start)?;
+            let place = ExprPlace::new(alloc, ExprFrame::Operand(o, Operand::Prefix(op), k))?;
             Ok(Next::at_expr(id, ExprMode::WantExpr(place)))
         }
     }
 }
 
 /// An expression of one token.
-fn is_leaf(id: u32, k: Box<InExpr>, a: Expr, span: Span) -> Result<Next, StepEnd>
-    ensures { (env : Env) → Gives env result (reader.go_on (suc id) env (reader.expr (reader.after_expr (parts.leaf span.start) (view_in_expr k.value) (shown a)))) }
+fn is_leaf(id: u32, k: ExprPlace, a: Expr, span: Span) -> Result<Next, StepEnd>
+    ensures { (env : Env) → Gives env result (reader.go_on (suc id) env (reader.expr (reader.after_expr (parts.leaf span.start) (view_expr_place k) (shown a)))) }
 {
     let next = following(id)?;
     let had = Had::leaf(span.start);
@@ -229,11 +219,11 @@ fn want_name(
     alloc: Global,
     names: &Names,
     id: u32,
-    k: Box<InExpr>,
+    k: ExprPlace,
     x: &[u8],
     span: Span,
 ) -> Result<Next, StepEnd>
-    ensures { Gives names.now result (if is_type names.now x.now then None else reader.go_on (suc id) names.now (reader.expr (reader.after_expr (parts.leaf span.start) (view_in_expr k.value) (marked.Name (parts.mark span.start span.end id) x.now)))) }
+    ensures { Gives names.now result (if is_type names.now x.now then None else reader.go_on (suc id) names.now (reader.expr (reader.after_expr (parts.leaf span.start) (view_expr_place k) (marked.Name (parts.mark span.start span.end id) x.now)))) }
 {
     if names.has(x) {
         Err(StepEnd::Wrong)
@@ -243,29 +233,23 @@ fn want_name(
     }
 }
 
-fn want_number(
-    alloc: Global,
-    id: u32,
-    k: Box<InExpr>,
-    x: &[u8],
-    span: Span,
-) -> Result<Next, StepEnd>
-    ensures { (env : Env) → Gives env result (reader.go_on (suc id) env (reader.expr (reader.after_expr (parts.leaf span.start) (view_in_expr k.value) (marked.Number (parts.mark span.start span.end id) x.now)))) }
+fn want_number(alloc: Global, id: u32, k: ExprPlace, x: &[u8], span: Span) -> Result<Next, StepEnd>
+    ensures { (env : Env) → Gives env result (reader.go_on (suc id) env (reader.expr (reader.after_expr (parts.leaf span.start) (view_expr_place k) (marked.Number (parts.mark span.start span.end id) x.now)))) }
 {
     let a = number(alloc, mark(span.start, span.end, id), x)?;
     is_leaf(id, k, a, span)
 }
 
-fn want_char(alloc: Global, id: u32, k: Box<InExpr>, x: &[u8], span: Span) -> Result<Next, StepEnd>
-    ensures { (env : Env) → Gives env result (reader.go_on (suc id) env (reader.expr (reader.after_expr (parts.leaf span.start) (view_in_expr k.value) (marked.Char (parts.mark span.start span.end id) x.now)))) }
+fn want_char(alloc: Global, id: u32, k: ExprPlace, x: &[u8], span: Span) -> Result<Next, StepEnd>
+    ensures { (env : Env) → Gives env result (reader.go_on (suc id) env (reader.expr (reader.after_expr (parts.leaf span.start) (view_expr_place k) (marked.Char (parts.mark span.start span.end id) x.now)))) }
 {
     let a = character(alloc, mark(span.start, span.end, id), x)?;
     is_leaf(id, k, a, span)
 }
 
 /// The first string literal.
-fn want_text(alloc: Global, id: u32, k: Box<InExpr>, x: &[u8], span: Span) -> Result<Next, StepEnd>
-    ensures { (env : Env) → Gives env result (reader.go_on id env (reader.expr (reader.after_text span.start (view_in_expr k.value) (x.now ∷ [])))) }
+fn want_text(alloc: Global, id: u32, k: ExprPlace, x: &[u8], span: Span) -> Result<Next, StepEnd>
+    ensures { (env : Env) → Gives env result (reader.go_on id env (reader.expr (reader.after_text span.start (view_expr_place k) (x.now ∷ [])))) }
 {
     let pieces = one_piece(alloc, x)?;
     Ok(Next::at_expr(id, ExprMode::AfterText(span.start, k, pieces)))
@@ -286,13 +270,13 @@ pub fn want(
     alloc: Global,
     names: &Names,
     id: u32,
-    k: Box<InExpr>,
+    k: ExprPlace,
     y: Symbol,
     span: Span,
 ) -> Result<Next, StepEnd>
-    ensures { Gives names.now result (begin.want id names.now (view_in_expr k.value) (view_symbol y.entry) span) }
+    ensures { Gives names.now result (begin.want id names.now (view_expr_place k) (view_symbol y.entry) span) }
 {
-    let o = Open::at(k.around().level, span.start)?;
+    let o = Open::at(k.get().around().level, span.start)?;
     match y {
         Symbol::Name(x) => want_name(alloc, names, id, k, x, span),
         Symbol::Number(x) => want_number(alloc, id, k, x, span),

@@ -5,37 +5,38 @@ ghost use Rattle.c_reader.specs.MarkedExprs as machine;
 ghost use Rattle.c_reader.specs.MarkedParts as parts;
 ghost use Rattle.read_begin.specs.Reduced.{view_reduced};
 ghost use Rattle.c_stack.specs.Shown.{shown};
-ghost use Rattle.c_stack.specs.Views.{view_had, view_in_expr, view_open, view_operand};
+ghost use Rattle.c_stack.specs.Views.{view_expr_frame, view_expr_place, view_had, view_open, view_operand};
 ghost use Rattle.c_stack.specs.declared.step.StepEnd.TheVariants.{NoMemory};
 
-use c_stack::inside::{Had, InExpr, Open, Operand};
+use c_held::Expr;
+use c_stack::inside::{Had, Open, Operand};
 use c_stack::make::{assign, binary, cast, comma, conditional, mark, prefix, sizeof_expr};
+use c_stack::place::{ExprFrame, ExprPlace};
 use c_stack::step::{StepEnd, following};
-use c_tree::{At, Expr};
-use std::alloc::Global;
-use tok_base::NoMemory as MemoryEnd;
+use c_tree::At;
+use std::alloc::{AllocError, Global};
 
 /// An expression, where it stands, and the number of the next node.
 #[derive(Drop)]
 pub struct Reduced {
     pub id: u32,
     pub had: Had,
-    pub place: Box<InExpr>,
+    pub place: ExprPlace,
     pub expr: Expr,
 }
 
 /// An operator with its last operand.
-fn made(alloc: Global, at: At, x: Operand, a: Expr) -> Result<Expr, MemoryEnd>
+fn made(alloc: Global, at: At, x: Operand, a: Expr) -> Result<Expr, AllocError>
     ensures { IfOk result (λ e. shown e ≡ machine.made at (view_operand x) (shown a)) }
 {
     match x {
-        Operand::Prefix(op) => Ok(prefix(alloc, at, op, a)?),
-        Operand::Sizeof => Ok(sizeof_expr(alloc, at, a)?),
+        Operand::Prefix(op) => prefix(alloc, at, op, a),
+        Operand::Sizeof => sizeof_expr(alloc, at, a),
         Operand::Cast(t) => cast(alloc, at, t, a),
-        Operand::Binary(left, op) => Ok(binary(alloc, at, left, op, a)?),
-        Operand::Assign(left, op) => Ok(assign(alloc, at, left, op, a)?),
-        Operand::Comma(left) => Ok(comma(alloc, at, left, a)?),
-        Operand::Cond(c, b) => Ok(conditional(alloc, at, c, b, a)?),
+        Operand::Binary(left, op) => binary(alloc, at, left, op, a),
+        Operand::Assign(left, op) => assign(alloc, at, left, op, a),
+        Operand::Comma(left) => comma(alloc, at, left, a),
+        Operand::Cond(c, b) => conditional(alloc, at, c, b, a),
     }
 }
 
@@ -58,11 +59,11 @@ fn ended(
 }
 
 /// The expression stands at this place.
-fn kept(alloc: Global, id: u32, had: Had, place: InExpr, expr: Expr) -> Result<Reduced, StepEnd>
-    ensures ok { IfOk result (λ r. view_reduced r ≡ record { id = id; had = view_had had; place = view_in_expr place; expr = shown expr }) }
+fn kept(alloc: Global, id: u32, had: Had, place: ExprFrame, expr: Expr) -> Result<Reduced, StepEnd>
+    ensures ok { IfOk result (λ r. view_reduced r ≡ record { id = id; had = view_had had; place = view_expr_frame place; expr = shown expr }) }
     ensures err { IfErr result (λ e. e ≡ NoMemory) }
 {
-    let place = Box::new(alloc, place)?;
+    let place = ExprPlace::new(alloc, place)?;
     Ok(Reduced {
         id,
         had,
@@ -77,27 +78,27 @@ pub fn reduce(
     id: u32,
     end: u32,
     h: Had,
-    k: Box<InExpr>,
+    k: ExprPlace,
     a: Expr,
     most: u32,
 ) -> Result<Reduced, StepEnd>
-    ensures ok { IfOk result (λ r. view_reduced r ≡ machine.reduced id end (view_had h) (view_in_expr k.value) (shown a) most) }
+    ensures ok { IfOk result (λ r. view_reduced r ≡ machine.reduced id end (view_had h) (view_expr_place k) (shown a) most) }
     ensures err { IfErr result (λ e. e ≡ NoMemory) }
 {
-    match Box::into_inner(k) {
-        InExpr::Operand(o, x, k) => {
+    match k.open() {
+        ExprFrame::Operand(o, x, k) => {
             if x.place() <= most {
-                kept(alloc, id, h, InExpr::Operand(o, x, k), a)
+                kept(alloc, id, h, ExprFrame::Operand(o, x, k), a)
             } else {
                 let next = following(id)?;
                 let (had, whole) = ended(alloc, mark(o.from, end, id), o, x, h, a)?;
                 reduce(alloc, next, end, had, k, whole, most)
             }
         }
-        InExpr::Bracket(o, b, k) => kept(alloc, id, h, InExpr::Bracket(o, b, k), a),
-        InExpr::Stmt(o, p, k) => kept(alloc, id, h, InExpr::Stmt(o, p, k), a),
-        InExpr::Init(k) => kept(alloc, id, h, InExpr::Init(k), a),
-        InExpr::Value(o, x, read, k) => kept(alloc, id, h, InExpr::Value(o, x, read, k), a),
-        InExpr::Array(o, x, k) => kept(alloc, id, h, InExpr::Array(o, x, k), a),
+        ExprFrame::Bracket(o, b, k) => kept(alloc, id, h, ExprFrame::Bracket(o, b, k), a),
+        ExprFrame::Stmt(o, p, k) => kept(alloc, id, h, ExprFrame::Stmt(o, p, k), a),
+        ExprFrame::Init(k) => kept(alloc, id, h, ExprFrame::Init(k), a),
+        ExprFrame::Value(o, x, read, k) => kept(alloc, id, h, ExprFrame::Value(o, x, read, k), a),
+        ExprFrame::Array(o, x, k) => kept(alloc, id, h, ExprFrame::Array(o, x, k), a),
     }
 }

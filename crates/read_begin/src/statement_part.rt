@@ -9,48 +9,35 @@ ghost use Rattle.c_reader.specs.MarkedParts as parts;
 ghost use Rattle.c_stack.specs.Gives.{Gives};
 ghost use Rattle.c_stack.specs.Seen.{view_symbol};
 ghost use Rattle.c_stack.specs.Shown.{shown, shown_first, shown_maybe, shown_stmt};
-ghost use Rattle.c_stack.specs.Views.{view_condition, view_in_stmt, view_open, view_part};
+ghost use Rattle.c_stack.specs.Views.{view_condition, view_open, view_part, view_stmt_place};
 
-use crate::numbers::{ending, refuse};
-use c_stack::inside::{Condition, InStmt, Next, Open, Part, StmtMode, Unended};
+use c_held::{Expr, ForFirst, Stmt};
+use c_stack::inside::{Condition, Next, Open, Part, StmtMode, Unended};
 use c_stack::make::{mark, some_expr};
+use c_stack::numbers::{ending, refuse};
+use c_stack::place::{StmtFrame, StmtPlace};
 use c_stack::statements::{first_expr, plain, return_};
 use c_stack::step::StepEnd;
 use c_stack::symbol::Symbol;
-use c_tree::{Expr, ForFirst, Stmt};
 use std::alloc::Global;
 use tok_base::Span;
 
 /// A statement that ends with this token.
-fn is_stmt(id: u32, o: Open, d: u32, k: Box<InStmt>, s: Stmt) -> Result<Next, StepEnd>
-    ensures { (env : Env) → Gives env result (reader.go_on (suc id) env (reader.stmt (reader.after_stmt (parts.whole (view_open o) d) (view_in_stmt k.value) (shown_stmt s)))) }
+fn is_stmt(id: u32, o: Open, d: u32, k: StmtPlace, s: Stmt) -> Result<Next, StepEnd>
+    ensures { (env : Env) → Gives env result (reader.go_on (suc id) env (reader.stmt (reader.after_stmt (parts.whole (view_open o) d) (view_stmt_place k) (shown_stmt s)))) }
 {
     let (next, deep) = ending(id, o, d)?;
     Ok(Next::at_stmt(next, StmtMode::AfterStmt(deep, k, s)))
 }
 
-fn plain_done(
-    id: u32,
-    o: Open,
-    d: u32,
-    k: Box<InStmt>,
-    a: Expr,
-    span: Span,
-) -> Result<Next, StepEnd>
-    ensures { (env : Env) → Gives env result (machine.part_semi id env (view_open o) d reader.plain (view_in_stmt k.value) (shown a) span) }
+fn plain_done(id: u32, o: Open, d: u32, k: StmtPlace, a: Expr, span: Span) -> Result<Next, StepEnd>
+    ensures { (env : Env) → Gives env result (machine.part_semi id env (view_open o) d reader.plain (view_stmt_place k) (shown a) span) }
 {
     is_stmt(id, o, d, k, plain(mark(o.from, span.end, id), a))
 }
 
-fn return_done(
-    id: u32,
-    o: Open,
-    d: u32,
-    k: Box<InStmt>,
-    a: Expr,
-    span: Span,
-) -> Result<Next, StepEnd>
-    ensures { (env : Env) → Gives env result (machine.part_semi id env (view_open o) d reader.returned (view_in_stmt k.value) (shown a) span) }
+fn return_done(id: u32, o: Open, d: u32, k: StmtPlace, a: Expr, span: Span) -> Result<Next, StepEnd>
+    ensures { (env : Env) → Gives env result (machine.part_semi id env (view_open o) d reader.returned (view_stmt_place k) (shown a) span) }
 {
     is_stmt(
         id,
@@ -62,8 +49,8 @@ fn return_done(
 }
 
 /// The first expression of `for`.
-fn first_done(id: u32, o: Open, k: Box<InStmt>, a: Expr) -> Result<Next, StepEnd>
-    ensures { (env : Env) → Gives env result (reader.go_on id env (reader.stmt (reader.want_condition (view_open o) (marked.FirstExpr (marked.some_expr (shown a))) (view_in_stmt k.value)))) }
+fn first_done(id: u32, o: Open, k: StmtPlace, a: Expr) -> Result<Next, StepEnd>
+    ensures { (env : Env) → Gives env result (reader.go_on id env (reader.stmt (reader.want_condition (view_open o) (marked.FirstExpr (marked.some_expr (shown a))) (view_stmt_place k)))) }
 {
     let first = first_expr(some_expr(a));
     Ok(Next::at_stmt(id, StmtMode::WantCondition(o, first, k)))
@@ -75,11 +62,11 @@ fn part_semi(
     o: Open,
     d: u32,
     p: Part,
-    k: Box<InStmt>,
+    k: StmtPlace,
     a: Expr,
     span: Span,
 ) -> Result<Next, StepEnd>
-    ensures { (env : Env) → Gives env result (machine.part_semi id env (view_open o) d (view_part p) (view_in_stmt k.value) (shown a) span) }
+    ensures { (env : Env) → Gives env result (machine.part_semi id env (view_open o) d (view_part p) (view_stmt_place k) (shown a) span) }
 {
     match p {
         Part::Plain => plain_done(id, o, d, k, a, span),
@@ -100,18 +87,18 @@ fn condition_done(
     id: u32,
     o: Open,
     c: Condition,
-    k: Box<InStmt>,
+    k: StmtPlace,
     a: Expr,
 ) -> Result<Next, StepEnd>
-    ensures { (env : Env) → Gives env result (machine.condition_done id env (view_open o) (view_condition c) (view_in_stmt k.value) (shown a)) }
+    ensures { (env : Env) → Gives env result (machine.condition_done id env (view_open o) (view_condition c) (view_stmt_place k) (shown a)) }
 {
     match c {
         Condition::If => {
-            let place = Box::new(alloc, InStmt::Then(o, a, k))?;
+            let place = StmtPlace::new(alloc, StmtFrame::Then(o, a, k))?;
             Ok(Next::at_stmt(id, StmtMode::WantStmt(place)))
         }
         Condition::While => {
-            let place = Box::new(alloc, InStmt::While(o, a, k))?;
+            let place = StmtPlace::new(alloc, StmtFrame::While(o, a, k))?;
             Ok(Next::at_stmt(id, StmtMode::WantStmt(place)))
         }
         Condition::Do(s) => Ok(Next::at_stmt(
@@ -128,12 +115,12 @@ fn step_done(
     o: Open,
     first: ForFirst,
     c: Option<Expr>,
-    k: Box<InStmt>,
+    k: StmtPlace,
     a: Expr,
 ) -> Result<Next, StepEnd>
-    ensures { (env : Env) → Gives env result (reader.go_on id env (reader.stmt (reader.want_stmt (reader.in_for (view_open o) (shown_first first) (shown_maybe c) (marked.some_expr (shown a)) (view_in_stmt k.value))))) }
+    ensures { (env : Env) → Gives env result (reader.go_on id env (reader.stmt (reader.want_stmt (reader.in_for (view_open o) (shown_first first) (shown_maybe c) (marked.some_expr (shown a)) (view_stmt_place k))))) }
 {
-    let place = Box::new(alloc, InStmt::For(o, first, c, some_expr(a), k))?;
+    let place = StmtPlace::new(alloc, StmtFrame::For(o, first, c, some_expr(a), k))?;
     Ok(Next::at_stmt(id, StmtMode::WantStmt(place)))
 }
 
@@ -144,10 +131,10 @@ fn part_paren(
     o: Open,
     d: u32,
     p: Part,
-    k: Box<InStmt>,
+    k: StmtPlace,
     a: Expr,
 ) -> Result<Next, StepEnd>
-    ensures { (env : Env) → Gives env result (machine.part_paren id env (view_open o) d (view_part p) (view_in_stmt k.value) (shown a)) }
+    ensures { (env : Env) → Gives env result (machine.part_paren id env (view_open o) d (view_part p) (view_stmt_place k) (shown a)) }
 {
     match p {
         Part::Condition(c) => condition_done(alloc, id, o.with_part(d), c, k, a),
@@ -163,12 +150,12 @@ pub fn close_part(
     o: Open,
     d: u32,
     p: Part,
-    k: Box<InStmt>,
+    k: StmtPlace,
     a: Expr,
     y: Symbol,
     span: Span,
 ) -> Result<Next, StepEnd>
-    ensures { (env : Env) → Gives env result (machine.close_part id env (view_open o) d (view_part p) (view_in_stmt k.value) (shown a) (view_symbol y.entry) span) }
+    ensures { (env : Env) → Gives env result (machine.close_part id env (view_open o) d (view_part p) (view_stmt_place k) (shown a) (view_symbol y.entry) span) }
 {
     match y {
         Symbol::Semicolon => part_semi(id, o, d, p, k, a, span),

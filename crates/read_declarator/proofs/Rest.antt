@@ -18,19 +18,6 @@ use Rattle.c_stack.specs.declared.symbol.Operator.{Operator}
 
 -- ---- declarations
 
-pub item_rest : (n e : ℕ) (env : Env) (x : r.ItemRead) (y : Symbol) (at : Span)
-    → (y ≡ s.Attribute → ⊥) → ((o : Operator) → y ≡ s.Operator o → ⊥)
-    → d.item_next n e env x (view_symbol y) at ≡ d.item_end (suc n) env (d.add_item n e 0 x u.no_init) (view_symbol y) at
-item_rest n e env x s.Attribute at a b = absurd (a refl)
-item_rest n e env x (s.Operator o) at a b = absurd (b o refl)
-item_rest n e env x _ at a b = refl
-
-pub item_declarator_rest : (n e : ℕ) (env : Env) (h : Had) (q : r.InItems) (x : u.Declarator) (y : Symbol) (at : Span)
-    → (y ≡ s.LeftBrace → ⊥)
-    → d.item_declarator_next n e env h q x (view_symbol y) at ≡ d.item_next n e env (record { node = takes q.node.level h; before = q; declarator = x; attributes = [] }) (view_symbol y) at
-item_declarator_rest n e env h q x s.LeftBrace at a = absurd (a refl)
-item_declarator_rest n e env h q x _ at a = refl
-
 pub init_rest : (n : ℕ) (env : Env) (k : r.InInit) (y : Symbol) (at : Span)
     → (y ≡ s.LeftBrace → ⊥) → (y ≡ s.RightBrace → ⊥)
     → d.init_begin n env k (view_symbol y) at ≡ begin.want n env (r.in_init k) (view_symbol y) at
@@ -39,15 +26,6 @@ init_rest n env k s.RightBrace at a b = absurd (b refl)
 init_rest n env k _ at a b = refl
 
 -- ---- declarators
-
-pub begin_rest : (n e : ℕ) (env : Env) (k : r.InDeclarator) (y : Symbol) (at : Span)
-    → ((x : Bor (List ℕ)) → y ≡ s.Name x → ⊥) → ((o : Operator) → y ≡ s.Operator o → ⊥) → (y ≡ s.LeftParen → ⊥) → (y ≡ s.LeftBracket → ⊥)
-    → m.declarator_begin n e env k (view_symbol y) at ≡ m.nameless n e env k (view_symbol y) at
-begin_rest n e env k (s.Name x) at a b f g = absurd (a x refl)
-begin_rest n e env k (s.Operator o) at a b f g = absurd (b o refl)
-begin_rest n e env k s.LeftParen at a b f g = absurd (f refl)
-begin_rest n e env k s.LeftBracket at a b f g = absurd (g refl)
-begin_rest n e env k _ at a b f g = refl
 
 pub star_rest : (n e : ℕ) (env : Env) (o : Open) (qs : List Word) (k : r.InDeclarator) (y : Symbol) (at : Span)
     → ((w : Keyword) → y ≡ s.Keyword w → ⊥)

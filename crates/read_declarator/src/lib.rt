@@ -1,11 +1,8 @@
-//! What a token does in declarations, their items and initialisers, and in declarators.
+//! What a token does in declarators, and where an initialiser begins.
 #![tactic(auto)]
 
-mod declarator_end;
-mod on_declaration;
 mod on_declarator;
+mod on_init;
 
-pub use on_declaration::{init_begin, init_next, item_next};
-pub use on_declarator::{
-    array_next, declarator_begin, declarator_next, opened_next, params_next, star_next,
-};
+pub use on_declarator::{array_next, declarator_next, opened_next, params_next, star_next};
+pub use on_init::init_begin;

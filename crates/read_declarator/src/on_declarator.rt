@@ -5,128 +5,41 @@ ghost use Rattle.c_tree.specs.Marked as marked;
 ghost use Rattle.c_tree.specs.View.{view_qualifier};
 ghost use Rattle.c_tree.specs.Wf.{Env, is_qualifier};
 ghost use Rattle.c_reader.specs.Begin as begin;
-ghost use Rattle.c_reader.specs.Declarators as machine;
 ghost use Rattle.c_reader.specs.MarkedBegin as begun;
 ghost use Rattle.c_reader.specs.MarkedDeclarators as reader;
 ghost use Rattle.c_reader.specs.MarkedInside as inside;
 ghost use Rattle.c_reader.specs.MarkedParts as parts;
 ghost use Rattle.c_reader.specs.Symbol.{keyword_word};
 ghost use Rattle.c_stack.specs.Gives.{Gives};
-ghost use Rattle.c_stack.specs.Seen.{view_keyword, view_operator, view_symbol};
+ghost use Rattle.c_stack.specs.Seen.{view_keyword, view_symbol};
 ghost use Rattle.c_stack.specs.Shown.{shown_declarator, shown_qualifiers};
-ghost use Rattle.c_stack.specs.Views.{view_had, view_in_declarator, view_open};
+ghost use Rattle.c_stack.specs.Views.{view_declarator_place, view_had, view_open};
 
-use crate::declarator_end::{
-    absent_name, end_declarator, may_be_named, may_be_nameless, nameless_next,
-};
-use c_stack::inside::{DeclaratorMode, Had, InDeclarator, InExpr, InSpecs, Next, Open, ParamsRead};
+use c_held::{Declarator, Params};
+use c_stack::inside::{DeclaratorMode, Had, Next, Open, ParamsRead};
 use c_stack::make::mark;
 use c_stack::names::Names;
-use c_stack::parts::{declared, function_of, no_qualifiers, open_array, with_qualifier};
+use c_stack::parts::{function_of, open_array, with_qualifier};
+use c_stack::place::{
+    DeclaratorFrame, DeclaratorPlace, ExprFrame, ExprPlace, SpecsFrame, SpecsPlace,
+};
 use c_stack::step::{StepEnd, following};
-use c_stack::symbol::{Operator, Symbol};
-use c_tree::{BinaryOp, Declarator, Keyword, Qualifier};
+use c_stack::symbol::Symbol;
+use c_tree::{Keyword, Qualifier};
 use read_begin::{begin_specs, begins_specs, first_spec, want};
+use read_end::{absent_name, declarator_begin, end_declarator, may_be_nameless};
 use std::alloc::Global;
 use tok_base::{Items, Span};
-
-/// Whether it is `*`.
-fn is_star(o: Operator) -> bool
-    ensures { result ≡ machine.is_star (view_operator o) }
-{
-    match o {
-        Operator::Binary(BinaryOp::Mul) => true,
-        _ => false,
-    }
-}
-
-// ---- the beginning of a declarator
-
-/// A name where a declarator begins.
-fn name_begin(
-    alloc: Global,
-    id: u32,
-    k: Box<InDeclarator>,
-    text: &[u8],
-    span: Span,
-) -> Result<Next, StepEnd>
-    ensures { (env : Env) → Gives env result (if reader.may_be_named (view_in_declarator k.value) then inside.go_on (suc id) env (inside.declarator (inside.after_declarator (parts.leaf span.start) (view_in_declarator k.value) (marked.Declared (parts.mark span.start span.end id) (Some text.now)))) else None) }
-{
-    if may_be_named(&k) {
-        let next = following(id)?;
-        let d = declared(alloc, mark(span.start, span.end, id), text)?;
-        let mode = DeclaratorMode::AfterDeclarator(Had::leaf(span.start), k, d);
-        Ok(Next::at_declarator(next, mode))
-    } else {
-        Err(StepEnd::Wrong)
-    }
-}
-
-/// An operator where a declarator begins, which must be `*`.
-fn star_begin(
-    alloc: Global,
-    id: u32,
-    k: Box<InDeclarator>,
-    o: Operator,
-    span: Span,
-) -> Result<Next, StepEnd>
-    ensures { (env : Env) → Gives env result (if machine.is_star (view_operator o) then inside.go_on id env (inside.declarator (inside.after_star (parts.opens (inside.around_declarator (view_in_declarator k.value)).level span.start) [] (view_in_declarator k.value))) else None) }
-{
-    if is_star(o) {
-        let o = Open::at(k.around().level, span.start)?;
-        let mode = DeclaratorMode::AfterStar(o, no_qualifiers(alloc), k);
-        Ok(Next::at_declarator(id, mode))
-    } else {
-        Err(StepEnd::Wrong)
-    }
-}
-
-/// A left bracket where a declarator begins, whose name is absent.
-fn bracket_begin(id: u32, k: Box<InDeclarator>, span: Span) -> Result<Next, StepEnd>
-    ensures { (env : Env) → Gives env result (if reader.may_be_nameless (view_in_declarator k.value) then inside.go_on (suc id) env (inside.declarator (inside.array_opened (parts.opens (inside.around_declarator (view_in_declarator k.value)).level span.start) (reader.absent_name id span.start) (view_in_declarator k.value))) else None) }
-{
-    if may_be_nameless(&k) {
-        let next = following(id)?;
-        let o = Open::at(k.around().level, span.start)?;
-        let mode = DeclaratorMode::ArrayOpened(o, absent_name(id, span.start), k);
-        Ok(Next::at_declarator(next, mode))
-    } else {
-        Err(StepEnd::Wrong)
-    }
-}
-
-/// The first token of a declarator.
-pub fn declarator_begin(
-    alloc: Global,
-    id: u32,
-    end: u32,
-    k: Box<InDeclarator>,
-    y: Symbol,
-    span: Span,
-) -> Result<Next, StepEnd>
-    ensures { (env : Env) → Gives env result (reader.declarator_begin id end env (view_in_declarator k.value) (view_symbol y.entry) span) }
-{
-    match y {
-        Symbol::Name(text) => name_begin(alloc, id, k, text, span),
-        Symbol::Operator(o) => star_begin(alloc, id, k, o, span),
-        Symbol::LeftParen => {
-            let o = Open::at(k.around().level, span.start)?;
-            Ok(Next::at_declarator(id, DeclaratorMode::Opened(o, k)))
-        }
-        Symbol::LeftBracket => bracket_begin(id, k, span),
-        _ => nameless_next(alloc, id, end, k, y, span),
-    }
-}
 
 /// A qualifier behind a star.
 fn qualifier_next(
     id: u32,
     o: Open,
     qualifiers: Items<Qualifier>,
-    k: Box<InDeclarator>,
+    k: DeclaratorPlace,
     q: Qualifier,
 ) -> Result<Next, StepEnd>
-    ensures { (env : Env) → Gives env result (inside.go_on id env (inside.declarator (inside.after_star (view_open o) (shown_qualifiers qualifiers ++ view_qualifier q ∷ []) (view_in_declarator k.value)))) }
+    ensures { (env : Env) → Gives env result (inside.go_on id env (inside.declarator (inside.after_star (view_open o) (shown_qualifiers qualifiers ++ view_qualifier q ∷ []) (view_declarator_place k)))) }
 {
     let qualifiers = with_qualifier(qualifiers, q)?;
     Ok(Next::at_declarator(id, DeclaratorMode::AfterStar(o, qualifiers, k)))
@@ -137,10 +50,10 @@ fn star_word(
     id: u32,
     o: Open,
     qualifiers: Items<Qualifier>,
-    k: Box<InDeclarator>,
+    k: DeclaratorPlace,
     w: Keyword,
 ) -> Result<Next, StepEnd>
-    ensures { (env : Env) → Gives env result (if is_qualifier (keyword_word (view_keyword w)) then inside.go_on id env (inside.declarator (inside.after_star (view_open o) (shown_qualifiers qualifiers ++ keyword_word (view_keyword w) ∷ []) (view_in_declarator k.value))) else None) }
+    ensures { (env : Env) → Gives env result (if is_qualifier (keyword_word (view_keyword w)) then inside.go_on id env (inside.declarator (inside.after_star (view_open o) (shown_qualifiers qualifiers ++ keyword_word (view_keyword w) ∷ []) (view_declarator_place k))) else None) }
 {
     match w {
         Keyword::Const => qualifier_next(id, o, qualifiers, k, Qualifier::Const),
@@ -157,13 +70,13 @@ fn pointed_begin(
     end: u32,
     o: Open,
     qualifiers: Items<Qualifier>,
-    k: Box<InDeclarator>,
+    k: DeclaratorPlace,
     y: Symbol,
     span: Span,
 ) -> Result<Next, StepEnd>
-    ensures { (env : Env) → Gives env result (reader.declarator_begin id end env (inside.in_pointer (view_open o) (shown_qualifiers qualifiers) (view_in_declarator k.value)) (view_symbol y.entry) span) }
+    ensures { (env : Env) → Gives env result (reader.declarator_begin id end env (inside.in_pointer (view_open o) (shown_qualifiers qualifiers) (view_declarator_place k)) (view_symbol y.entry) span) }
 {
-    let place = Box::new(alloc, InDeclarator::Pointer(o, qualifiers, k))?;
+    let place = DeclaratorPlace::new(alloc, DeclaratorFrame::Pointer(o, qualifiers, k))?;
     declarator_begin(alloc, id, end, place, y, span)
 }
 
@@ -174,11 +87,11 @@ pub fn star_next(
     end: u32,
     o: Open,
     qualifiers: Items<Qualifier>,
-    k: Box<InDeclarator>,
+    k: DeclaratorPlace,
     y: Symbol,
     span: Span,
 ) -> Result<Next, StepEnd>
-    ensures { (env : Env) → Gives env result (reader.star_next id end env (view_open o) (shown_qualifiers qualifiers) (view_in_declarator k.value) (view_symbol y.entry) span) }
+    ensures { (env : Env) → Gives env result (reader.star_next id end env (view_open o) (shown_qualifiers qualifiers) (view_declarator_place k) (view_symbol y.entry) span) }
 {
     match y {
         Symbol::Keyword(w) => star_word(id, o, qualifiers, k, w),
@@ -192,18 +105,18 @@ fn begin_params(
     id: u32,
     o: Open,
     d: Declarator,
-    k: Box<InDeclarator>,
+    k: DeclaratorPlace,
     y: Symbol,
     span: Span,
 ) -> Result<Next, StepEnd>
-    ensures { (env : Env) → Gives env result (begun.begin_specs id env (inside.of_param (inside.in_params (view_open o) (shown_declarator d) [] (view_in_declarator k.value))) (view_symbol y.entry) span) }
+    ensures { (env : Env) → Gives env result (begun.begin_specs id env (inside.of_param (inside.in_params (view_open o) (shown_declarator d) [] (view_declarator_place k))) (view_symbol y.entry) span) }
 {
     let read = ParamsRead {
         node: o,
         declarator: d,
-        params: Items::new(alloc),
+        params: Params::new(alloc),
     };
-    let place = Box::new(alloc, InSpecs::Param(read, k))?;
+    let place = SpecsPlace::new(alloc, SpecsFrame::Param(read, k))?;
     begin_specs(alloc, id, place, y, span)
 }
 
@@ -212,13 +125,13 @@ fn open_params(
     alloc: Global,
     id: u32,
     o: Open,
-    k: Box<InDeclarator>,
+    k: DeclaratorPlace,
     y: Symbol,
     span: Span,
 ) -> Result<Next, StepEnd>
-    ensures { (env : Env) → Gives env result (reader.open_params id env (view_open o) (view_in_declarator k.value) (view_symbol y.entry) span) }
+    ensures { (env : Env) → Gives env result (reader.open_params id env (view_open o) (view_declarator_place k) (view_symbol y.entry) span) }
 {
-    if may_be_nameless(&k) {
+    if may_be_nameless(k.get()) {
         let next = following(id)?;
         begin_params(alloc, next, o, absent_name(id, o.from), k, y, span)
     } else {
@@ -231,12 +144,12 @@ fn no_params(
     alloc: Global,
     id: u32,
     o: Open,
-    k: Box<InDeclarator>,
+    k: DeclaratorPlace,
     span: Span,
 ) -> Result<Next, StepEnd>
-    ensures { (env : Env) → Gives env result (if reader.may_be_nameless (view_in_declarator k.value) then inside.go_on (suc (suc id)) env (inside.declarator (inside.after_declarator (parts.closed (view_open o) 0) (view_in_declarator k.value) (marked.FunctionOf (parts.mark o.from span.end (suc id)) (reader.absent_name id o.from) marked.no_params))) else None) }
+    ensures { (env : Env) → Gives env result (if reader.may_be_nameless (view_declarator_place k) then inside.go_on (suc (suc id)) env (inside.declarator (inside.after_declarator (parts.closed (view_open o) 0) (view_declarator_place k) (marked.FunctionOf (parts.mark o.from span.end (suc id)) (reader.absent_name id o.from) marked.no_params))) else None) }
 {
-    if may_be_nameless(&k) {
+    if may_be_nameless(k.get()) {
         let whole_id = following(id)?;
         let next = following(whole_id)?;
         let had = o.closed(0)?;
@@ -245,7 +158,7 @@ fn no_params(
             alloc,
             mark(o.from, span.end, whole_id),
             absent,
-            Items::new(alloc),
+            Params::new(alloc),
         )?;
         Ok(Next::at_declarator(next, DeclaratorMode::AfterDeclarator(had, k, whole)))
     } else {
@@ -259,13 +172,13 @@ fn group_begin(
     id: u32,
     end: u32,
     o: Open,
-    k: Box<InDeclarator>,
+    k: DeclaratorPlace,
     y: Symbol,
     span: Span,
 ) -> Result<Next, StepEnd>
-    ensures { (env : Env) → Gives env result (reader.declarator_begin id end env (inside.in_group (view_open o) (view_in_declarator k.value)) (view_symbol y.entry) span) }
+    ensures { (env : Env) → Gives env result (reader.declarator_begin id end env (inside.in_group (view_open o) (view_declarator_place k)) (view_symbol y.entry) span) }
 {
-    let place = Box::new(alloc, InDeclarator::Group(o, k))?;
+    let place = DeclaratorPlace::new(alloc, DeclaratorFrame::Group(o, k))?;
     declarator_begin(alloc, id, end, place, y, span)
 }
 
@@ -276,11 +189,11 @@ fn opened_more(
     id: u32,
     end: u32,
     o: Open,
-    k: Box<InDeclarator>,
+    k: DeclaratorPlace,
     y: Symbol,
     span: Span,
 ) -> Result<Next, StepEnd>
-    ensures { Gives names.now result (if begin.begins_specs names.now false (view_symbol y.entry) then reader.open_params id names.now (view_open o) (view_in_declarator k.value) (view_symbol y.entry) span else reader.declarator_begin id end names.now (inside.in_group (view_open o) (view_in_declarator k.value)) (view_symbol y.entry) span) }
+    ensures { Gives names.now result (if begin.begins_specs names.now false (view_symbol y.entry) then reader.open_params id names.now (view_open o) (view_declarator_place k) (view_symbol y.entry) span else reader.declarator_begin id end names.now (inside.in_group (view_open o) (view_declarator_place k)) (view_symbol y.entry) span) }
 {
     if begins_specs(names, false, y) {
         open_params(alloc, id, o, k, y, span)
@@ -296,11 +209,11 @@ pub fn opened_next(
     id: u32,
     end: u32,
     o: Open,
-    k: Box<InDeclarator>,
+    k: DeclaratorPlace,
     y: Symbol,
     span: Span,
 ) -> Result<Next, StepEnd>
-    ensures { Gives names.now result (reader.opened_next id end names.now (view_open o) (view_in_declarator k.value) (view_symbol y.entry) span) }
+    ensures { Gives names.now result (reader.opened_next id end names.now (view_open o) (view_declarator_place k) (view_symbol y.entry) span) }
 {
     match y {
         Symbol::RightParen => no_params(alloc, id, o, k, span),
@@ -317,13 +230,13 @@ fn length_begin(
     id: u32,
     o: Open,
     d: Declarator,
-    k: Box<InDeclarator>,
+    k: DeclaratorPlace,
     y: Symbol,
     span: Span,
 ) -> Result<Next, StepEnd>
-    ensures { Gives names.now result (begun.want id names.now (inside.in_array (view_open o) (shown_declarator d) (view_in_declarator k.value)) (view_symbol y.entry) span) }
+    ensures { Gives names.now result (begun.want id names.now (inside.in_array (view_open o) (shown_declarator d) (view_declarator_place k)) (view_symbol y.entry) span) }
 {
-    let place = Box::new(alloc, InExpr::Array(o, d, k))?;
+    let place = ExprPlace::new(alloc, ExprFrame::Array(o, d, k))?;
     want(alloc, names, id, place, y, span)
 }
 
@@ -334,11 +247,11 @@ pub fn array_next(
     id: u32,
     o: Open,
     d: Declarator,
-    k: Box<InDeclarator>,
+    k: DeclaratorPlace,
     y: Symbol,
     span: Span,
 ) -> Result<Next, StepEnd>
-    ensures { Gives names.now result (reader.array_next id names.now (view_open o) (shown_declarator d) (view_in_declarator k.value) (view_symbol y.entry) span) }
+    ensures { Gives names.now result (reader.array_next id names.now (view_open o) (shown_declarator d) (view_declarator_place k) (view_symbol y.entry) span) }
 {
     match y {
         Symbol::RightBracket => {
@@ -358,18 +271,18 @@ fn first_param(
     id: u32,
     o: Open,
     d: Declarator,
-    k: Box<InDeclarator>,
+    k: DeclaratorPlace,
     y: Symbol,
     span: Span,
 ) -> Result<Next, StepEnd>
-    ensures { Gives names.now result (begun.first_spec id names.now (inside.of_param (inside.in_params (view_open o) (shown_declarator d) [] (view_in_declarator k.value))) (view_symbol y.entry) span) }
+    ensures { Gives names.now result (begun.first_spec id names.now (inside.of_param (inside.in_params (view_open o) (shown_declarator d) [] (view_declarator_place k))) (view_symbol y.entry) span) }
 {
     let read = ParamsRead {
         node: o,
         declarator: d,
-        params: Items::new(alloc),
+        params: Params::new(alloc),
     };
-    let place = Box::new(alloc, InSpecs::Param(read, k))?;
+    let place = SpecsPlace::new(alloc, SpecsFrame::Param(read, k))?;
     first_spec(alloc, names, id, place, y, span)
 }
 
@@ -380,17 +293,17 @@ pub fn params_next(
     id: u32,
     o: Open,
     d: Declarator,
-    k: Box<InDeclarator>,
+    k: DeclaratorPlace,
     y: Symbol,
     span: Span,
 ) -> Result<Next, StepEnd>
-    ensures { Gives names.now result (reader.params_next id names.now (view_open o) (shown_declarator d) (view_in_declarator k.value) (view_symbol y.entry) span) }
+    ensures { Gives names.now result (reader.params_next id names.now (view_open o) (shown_declarator d) (view_declarator_place k) (view_symbol y.entry) span) }
 {
     match y {
         Symbol::RightParen => {
             let next = following(id)?;
             let had = o.closed(0)?;
-            let whole = function_of(alloc, mark(o.from, span.end, id), d, Items::new(alloc))?;
+            let whole = function_of(alloc, mark(o.from, span.end, id), d, Params::new(alloc))?;
             Ok(Next::at_declarator(next, DeclaratorMode::AfterDeclarator(had, k, whole)))
         }
         _ => first_param(alloc, names, id, o, d, k, y, span),
@@ -403,20 +316,20 @@ pub fn declarator_next(
     id: u32,
     end: u32,
     had: Had,
-    k: Box<InDeclarator>,
+    k: DeclaratorPlace,
     d: Declarator,
     y: Symbol,
     span: Span,
 ) -> Result<Next, StepEnd>
-    ensures { (env : Env) → Gives env result (reader.declarator_next id end env (view_had had) (view_in_declarator k.value) (shown_declarator d) (view_symbol y.entry) span) }
+    ensures { (env : Env) → Gives env result (reader.declarator_next id end env (view_had had) (view_declarator_place k) (shown_declarator d) (view_symbol y.entry) span) }
 {
     match y {
         Symbol::LeftBracket => {
-            let o = Open::taking(k.around().level, had)?;
+            let o = Open::taking(k.get().around().level, had)?;
             Ok(Next::at_declarator(id, DeclaratorMode::ArrayOpened(o, d, k)))
         }
         Symbol::LeftParen => {
-            let o = Open::taking(k.around().level, had)?;
+            let o = Open::taking(k.get().around().level, had)?;
             Ok(Next::at_declarator(id, DeclaratorMode::ParamsOpened(o, d, k)))
         }
         _ => end_declarator(alloc, id, end, had, k, d, y, span),

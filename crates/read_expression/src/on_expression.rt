@@ -13,43 +13,44 @@ ghost use Rattle.c_stack.specs.Gives.{Gives};
 ghost use Rattle.read_begin.specs.Reduced.{view_reduced};
 ghost use Rattle.c_stack.specs.Seen.{view_member, view_operator, view_symbol};
 ghost use Rattle.c_stack.specs.Shown.{shown, shown_declarator};
-ghost use Rattle.c_stack.specs.Views.{view_bracket, view_callee, view_expr_mode, view_had, view_in_declarator, view_in_enum, view_in_expr, view_open, view_operand, view_place};
+ghost use Rattle.c_stack.specs.Views.{view_bracket, view_callee, view_declarator_place, view_expr_mode, view_expr_place, view_had, view_in_enum, view_open, view_operand, view_place};
 
+use c_held::{Declarator, Expr, Exprs};
 use c_stack::inside::{
-    Bracket, Callee, DeclaratorMode, ExprMode, Had, InDeclarator, InEnum, InExpr, InSpecs, Next,
-    Open, Operand, TypePlace,
+    Bracket, Callee, DeclaratorMode, ExprMode, Had, InEnum, Next, Open, Operand, TypePlace,
 };
 use c_stack::levels::{level, needs, tight};
 use c_stack::make::{arrow, builtin, call, dot, index, mark, paren, post, text, with_argument};
 use c_stack::names::Names;
+use c_stack::numbers::refuse;
 use c_stack::parts::{array_of, some_value};
+use c_stack::place::{DeclaratorPlace, ExprFrame, ExprPlace, SpecsFrame, SpecsPlace};
 use c_stack::statements::plain_init;
 use c_stack::step::{StepEnd, following};
 use c_stack::symbol::{Member, Operator, Symbol};
-use c_tree::{At, Declarator, Expr, Step};
-use read_begin::{Reduced, begin_specs, begins_specs, close_part, reduce, refuse, want};
-use read_declarator::init_next;
-use read_specifier::{add_enumerator, enumerator_end};
+use c_tree::{At, Step};
+use read_begin::{Reduced, begin_specs, begins_specs, close_part, reduce, want};
+use read_end::{add_enumerator, enumerator_end, init_next};
 use std::alloc::{AllocError, Global};
-use tok_base::{Bytes, Items, NoMemory, Span};
+use tok_base::{Bytes, Items, Span};
 
 // ---- a token that takes the expression before it
 
 /// An operator whose first operands are read wants the last one.
-fn want_last(alloc: Global, id: u32, h: Had, k: Box<InExpr>, x: Operand) -> Result<Next, StepEnd>
-    ensures { (env : Env) → Gives env result (reader.go_on id env (reader.expr (reader.want_expr (reader.in_operand (parts.takes (reader.around_expr (view_in_expr k.value)).level (view_had h)) (view_operand x) (view_in_expr k.value))))) }
+fn want_last(alloc: Global, id: u32, h: Had, k: ExprPlace, x: Operand) -> Result<Next, StepEnd>
+    ensures { (env : Env) → Gives env result (reader.go_on id env (reader.expr (reader.want_expr (reader.in_operand (parts.takes (reader.around_expr (view_expr_place k)).level (view_had h)) (view_operand x) (view_expr_place k))))) }
 {
-    let o = Open::taking(k.around().level, h)?;
-    let place = Box::new(alloc, InExpr::Operand(o, x, k))?;
+    let o = Open::taking(k.get().around().level, h)?;
+    let place = ExprPlace::new(alloc, ExprFrame::Operand(o, x, k))?;
     Ok(Next::at_expr(id, ExprMode::WantExpr(place)))
 }
 
 /// A bracket behind an expression opens.
-fn want_inner(alloc: Global, id: u32, h: Had, k: Box<InExpr>, b: Bracket) -> Result<Next, StepEnd>
-    ensures { (env : Env) → Gives env result (reader.go_on id env (reader.expr (reader.want_expr (reader.in_bracket (parts.takes (reader.around_expr (view_in_expr k.value)).level (view_had h)) (view_bracket b) (view_in_expr k.value))))) }
+fn want_inner(alloc: Global, id: u32, h: Had, k: ExprPlace, b: Bracket) -> Result<Next, StepEnd>
+    ensures { (env : Env) → Gives env result (reader.go_on id env (reader.expr (reader.want_expr (reader.in_bracket (parts.takes (reader.around_expr (view_expr_place k)).level (view_had h)) (view_bracket b) (view_expr_place k))))) }
 {
-    let o = Open::taking(k.around().level, h)?;
-    let place = Box::new(alloc, InExpr::Bracket(o, b, k))?;
+    let o = Open::taking(k.get().around().level, h)?;
+    let place = ExprPlace::new(alloc, ExprFrame::Bracket(o, b, k))?;
     Ok(Next::at_expr(id, ExprMode::WantExpr(place)))
 }
 
@@ -58,12 +59,12 @@ fn take_step(
     alloc: Global,
     id: u32,
     h: Had,
-    k: Box<InExpr>,
+    k: ExprPlace,
     a: Expr,
     op: Step,
     span: Span,
 ) -> Result<Next, StepEnd>
-    ensures { (env : Env) → Gives env result (reader.go_on (suc id) env (reader.expr (reader.after_expr (parts.over (view_had h)) (view_in_expr k.value) (marked.Post (parts.mark h.from span.end id) (shown a) (view_step op))))) }
+    ensures { (env : Env) → Gives env result (reader.go_on (suc id) env (reader.expr (reader.after_expr (parts.over (view_had h)) (view_expr_place k) (marked.Post (parts.mark h.from span.end id) (shown a) (view_step op))))) }
 {
     let next = following(id)?;
     let had = h.over()?;
@@ -72,18 +73,18 @@ fn take_step(
 }
 
 /// `.` or `->` behind an expression.
-fn take_member(id: u32, h: Had, k: Box<InExpr>, a: Expr, m: Member) -> Result<Next, StepEnd>
-    ensures { (env : Env) → Gives env result (reader.go_on id env (reader.expr (reader.want_member (parts.takes (reader.around_expr (view_in_expr k.value)).level (view_had h)) (shown a) (view_member m) (view_in_expr k.value)))) }
+fn take_member(id: u32, h: Had, k: ExprPlace, a: Expr, m: Member) -> Result<Next, StepEnd>
+    ensures { (env : Env) → Gives env result (reader.go_on id env (reader.expr (reader.want_member (parts.takes (reader.around_expr (view_expr_place k)).level (view_had h)) (shown a) (view_member m) (view_expr_place k)))) }
 {
-    let o = Open::taking(k.around().level, h)?;
+    let o = Open::taking(k.get().around().level, h)?;
     Ok(Next::at_expr(id, ExprMode::WantMember(o, a, m, k)))
 }
 
 /// The parenthesis of a call.
-fn take_call(id: u32, h: Had, k: Box<InExpr>, a: Expr) -> Result<Next, StepEnd>
-    ensures { (env : Env) → Gives env result (reader.go_on id env (reader.expr (reader.args_opened (parts.takes (reader.around_expr (view_in_expr k.value)).level (view_had h)) (shown a) (view_in_expr k.value)))) }
+fn take_call(id: u32, h: Had, k: ExprPlace, a: Expr) -> Result<Next, StepEnd>
+    ensures { (env : Env) → Gives env result (reader.go_on id env (reader.expr (reader.args_opened (parts.takes (reader.around_expr (view_expr_place k)).level (view_had h)) (shown a) (view_expr_place k)))) }
 {
-    let o = Open::taking(k.around().level, h)?;
+    let o = Open::taking(k.get().around().level, h)?;
     Ok(Next::at_expr(id, ExprMode::ArgsOpened(o, a, k)))
 }
 
@@ -91,12 +92,12 @@ fn take_operator(
     alloc: Global,
     id: u32,
     h: Had,
-    k: Box<InExpr>,
+    k: ExprPlace,
     a: Expr,
     op: Operator,
     span: Span,
 ) -> Result<Next, StepEnd>
-    ensures { (env : Env) → Gives env result (machine.take_operator id env (view_had h) (view_in_expr k.value) (shown a) (view_operator op) span) }
+    ensures { (env : Env) → Gives env result (machine.take_operator id env (view_had h) (view_expr_place k) (shown a) (view_operator op) span) }
 {
     match op {
         Operator::Binary(op) => want_last(alloc, id, h, k, Operand::Binary(a, op)),
@@ -112,12 +113,12 @@ fn take_expr(
     alloc: Global,
     id: u32,
     h: Had,
-    k: Box<InExpr>,
+    k: ExprPlace,
     a: Expr,
     y: Symbol,
     span: Span,
 ) -> Result<Next, StepEnd>
-    ensures { (env : Env) → Gives env result (machine.take_expr id env (view_had h) (view_in_expr k.value) (shown a) (view_symbol y.entry) span) }
+    ensures { (env : Env) → Gives env result (machine.take_expr id env (view_had h) (view_expr_place k) (shown a) (view_symbol y.entry) span) }
 {
     match y {
         Symbol::Operator(op) => take_operator(alloc, id, h, k, a, op, span),
@@ -131,8 +132,8 @@ fn take_expr(
 // ---- a token that closes what is open
 
 /// A node that ends with this token.
-fn is_whole(id: u32, o: Open, d: u32, k: Box<InExpr>, whole: Expr) -> Result<Next, StepEnd>
-    ensures { (env : Env) → Gives env result (reader.go_on (suc id) env (reader.expr (reader.after_expr (parts.closed (view_open o) d) (view_in_expr k.value) (shown whole)))) }
+fn is_whole(id: u32, o: Open, d: u32, k: ExprPlace, whole: Expr) -> Result<Next, StepEnd>
+    ensures { (env : Env) → Gives env result (reader.go_on (suc id) env (reader.expr (reader.after_expr (parts.closed (view_open o) d) (view_expr_place k) (shown whole)))) }
 {
     let next = following(id)?;
     let had = o.closed(d)?;
@@ -144,12 +145,12 @@ fn close_paren(
     id: u32,
     o: Open,
     d: u32,
-    k: Box<InExpr>,
+    k: ExprPlace,
     a: Expr,
     y: Symbol,
     span: Span,
 ) -> Result<Next, StepEnd>
-    ensures { (env : Env) → Gives env result (machine.close_paren id env (view_open o) d (view_in_expr k.value) (shown a) (view_symbol y.entry) span) }
+    ensures { (env : Env) → Gives env result (machine.close_paren id env (view_open o) d (view_expr_place k) (shown a) (view_symbol y.entry) span) }
 {
     match y {
         Symbol::RightParen => {
@@ -165,13 +166,13 @@ fn close_index(
     id: u32,
     o: Open,
     d: u32,
-    k: Box<InExpr>,
+    k: ExprPlace,
     left: Expr,
     a: Expr,
     y: Symbol,
     span: Span,
 ) -> Result<Next, StepEnd>
-    ensures { (env : Env) → Gives env result (machine.close_index id env (view_open o) d (view_in_expr k.value) (shown left) (shown a) (view_symbol y.entry) span) }
+    ensures { (env : Env) → Gives env result (machine.close_index id env (view_open o) d (view_expr_place k) (shown left) (shown a) (view_symbol y.entry) span) }
 {
     match y {
         Symbol::RightBracket => {
@@ -182,7 +183,7 @@ fn close_index(
     }
 }
 
-fn call_of(alloc: Global, at: At, callee: Callee, args: Items<Expr>) -> Result<Expr, NoMemory>
+fn call_of(alloc: Global, at: At, callee: Callee, args: Exprs) -> Result<Expr, AllocError>
     ensures { IfOk result (λ e. shown e ≡ machine.call_of at (view_callee callee) (parts.exprs_of (map shown args))) }
 {
     match callee {
@@ -195,13 +196,13 @@ fn next_arg(
     alloc: Global,
     id: u32,
     o: Open,
-    k: Box<InExpr>,
+    k: ExprPlace,
     callee: Callee,
-    args: Items<Expr>,
+    args: Exprs,
 ) -> Result<Next, StepEnd>
-    ensures { (env : Env) → Gives env result (reader.go_on id env (reader.expr (reader.want_expr (reader.in_bracket (view_open o) (reader.of_args (view_callee callee) (map shown args)) (view_in_expr k.value))))) }
+    ensures { (env : Env) → Gives env result (reader.go_on id env (reader.expr (reader.want_expr (reader.in_bracket (view_open o) (reader.of_args (view_callee callee) (map shown args)) (view_expr_place k))))) }
 {
-    let place = Box::new(alloc, InExpr::Bracket(o, Bracket::Args(callee, args), k))?;
+    let place = ExprPlace::new(alloc, ExprFrame::Bracket(o, Bracket::Args(callee, args), k))?;
     Ok(Next::at_expr(id, ExprMode::WantExpr(place)))
 }
 
@@ -210,13 +211,13 @@ fn close_args(
     alloc: Global,
     id: u32,
     o: Open,
-    k: Box<InExpr>,
+    k: ExprPlace,
     callee: Callee,
-    args: Items<Expr>,
+    args: Exprs,
     y: Symbol,
     span: Span,
 ) -> Result<Next, StepEnd>
-    ensures { (env : Env) → Gives env result (machine.close_args id env (view_open o) (view_in_expr k.value) (view_callee callee) (map shown args) (view_symbol y.entry) span) }
+    ensures { (env : Env) → Gives env result (machine.close_args id env (view_open o) (view_expr_place k) (view_callee callee) (map shown args) (view_symbol y.entry) span) }
 {
     match y {
         Symbol::Comma => next_arg(alloc, id, o, k, callee, args),
@@ -233,13 +234,13 @@ fn middle_done(
     alloc: Global,
     id: u32,
     o: Open,
-    k: Box<InExpr>,
+    k: ExprPlace,
     c: Expr,
     a: Expr,
 ) -> Result<Next, StepEnd>
-    ensures { (env : Env) → Gives env result (reader.go_on id env (reader.expr (reader.want_expr (reader.in_operand (view_open o) (reader.of_cond (shown c) (shown a)) (view_in_expr k.value))))) }
+    ensures { (env : Env) → Gives env result (reader.go_on id env (reader.expr (reader.want_expr (reader.in_operand (view_open o) (reader.of_cond (shown c) (shown a)) (view_expr_place k))))) }
 {
-    let place = Box::new(alloc, InExpr::Operand(o, Operand::Cond(c, a), k))?;
+    let place = ExprPlace::new(alloc, ExprFrame::Operand(o, Operand::Cond(c, a), k))?;
     Ok(Next::at_expr(id, ExprMode::WantExpr(place)))
 }
 
@@ -248,12 +249,12 @@ fn close_middle(
     id: u32,
     o: Open,
     d: u32,
-    k: Box<InExpr>,
+    k: ExprPlace,
     c: Expr,
     a: Expr,
     y: Symbol,
 ) -> Result<Next, StepEnd>
-    ensures { (env : Env) → Gives env result (machine.close_middle id env (view_open o) d (view_in_expr k.value) (shown c) (shown a) (view_symbol y.entry)) }
+    ensures { (env : Env) → Gives env result (machine.close_middle id env (view_open o) d (view_expr_place k) (shown c) (shown a) (view_symbol y.entry)) }
 {
     match y {
         Symbol::Colon => middle_done(alloc, id, o.with_part(d), k, c, a),
@@ -267,12 +268,12 @@ fn close_bracket(
     o: Open,
     d: u32,
     b: Bracket,
-    k: Box<InExpr>,
+    k: ExprPlace,
     a: Expr,
     y: Symbol,
     span: Span,
 ) -> Result<Next, StepEnd>
-    ensures { (env : Env) → Gives env result (machine.close_bracket id env (view_open o) d (view_bracket b) (view_in_expr k.value) (shown a) (view_symbol y.entry) span) }
+    ensures { (env : Env) → Gives env result (machine.close_bracket id env (view_open o) d (view_bracket b) (view_expr_place k) (shown a) (view_symbol y.entry) span) }
 {
     match b {
         Bracket::Paren => close_paren(alloc, id, o, d, k, a, y, span),
@@ -290,10 +291,10 @@ fn is_declarator(
     id: u32,
     o: Open,
     d: u32,
-    k: Box<InDeclarator>,
+    k: DeclaratorPlace,
     whole: Declarator,
 ) -> Result<Next, StepEnd>
-    ensures { (env : Env) → Gives env result (reader.go_on (suc id) env (reader.declarator (reader.after_declarator (parts.closed (view_open o) d) (view_in_declarator k.value) (shown_declarator whole)))) }
+    ensures { (env : Env) → Gives env result (reader.go_on (suc id) env (reader.declarator (reader.after_declarator (parts.closed (view_open o) d) (view_declarator_place k) (shown_declarator whole)))) }
 {
     let next = following(id)?;
     let had = o.closed(d)?;
@@ -307,12 +308,12 @@ fn close_array(
     o: Open,
     d: u32,
     x: Declarator,
-    k: Box<InDeclarator>,
+    k: DeclaratorPlace,
     a: Expr,
     y: Symbol,
     span: Span,
 ) -> Result<Next, StepEnd>
-    ensures { (env : Env) → Gives env result (machine.close_array id env (view_open o) d (shown_declarator x) (view_in_declarator k.value) (shown a) (view_symbol y.entry) span) }
+    ensures { (env : Env) → Gives env result (machine.close_array id env (view_open o) d (shown_declarator x) (view_declarator_place k) (shown a) (view_symbol y.entry) span) }
 {
     match y {
         Symbol::RightBracket => {
@@ -349,22 +350,22 @@ fn close(
     id: u32,
     end: u32,
     d: u32,
-    k: Box<InExpr>,
+    k: ExprPlace,
     a: Expr,
     y: Symbol,
     span: Span,
 ) -> Result<Next, StepEnd>
-    ensures { (env : Env) → Gives env result (machine.close id end env d (view_in_expr k.value) (shown a) (view_symbol y.entry) span) }
+    ensures { (env : Env) → Gives env result (machine.close id end env d (view_expr_place k) (shown a) (view_symbol y.entry) span) }
 {
-    match Box::into_inner(k) {
-        InExpr::Operand(_, x, k) => refuse((x, k, a)),
-        InExpr::Bracket(o, b, k) => close_bracket(alloc, id, o, d, b, k, a, y, span),
-        InExpr::Stmt(o, p, k) => close_part(alloc, id, o, d, p, k, a, y, span),
-        InExpr::Init(k) => init_next(alloc, id, end, d, k, plain_init(a), y, span),
-        InExpr::Value(o, x, read, place) => {
+    match k.open() {
+        ExprFrame::Operand(_, x, k) => refuse((x, k, a)),
+        ExprFrame::Bracket(o, b, k) => close_bracket(alloc, id, o, d, b, k, a, y, span),
+        ExprFrame::Stmt(o, p, k) => close_part(alloc, id, o, d, p, k, a, y, span),
+        ExprFrame::Init(k) => init_next(alloc, id, end, d, k, plain_init(a), y, span),
+        ExprFrame::Value(o, x, read, place) => {
             close_value(alloc, id, end, o, d, x, InEnum { read, place }, a, y, span)
         }
-        InExpr::Array(o, x, k) => close_array(alloc, id, o, d, x, k, a, y, span),
+        ExprFrame::Array(o, x, k) => close_array(alloc, id, o, d, x, k, a, y, span),
     }
 }
 
@@ -375,14 +376,14 @@ fn take(
     alloc: Global,
     id: u32,
     h: Had,
-    k: Box<InExpr>,
+    k: ExprPlace,
     a: Expr,
     y: Symbol,
     span: Span,
 ) -> Result<Next, StepEnd>
-    ensures { (env : Env) → Gives env result (machine.take id env (view_had h) (view_in_expr k.value) (shown a) (view_symbol y.entry) span) }
+    ensures { (env : Env) → Gives env result (machine.take id env (view_had h) (view_expr_place k) (shown a) (view_symbol y.entry) span) }
 {
-    if needs(y) <= level(&a) {
+    if needs(y) <= level(a.get()) {
         take_expr(alloc, id, h, k, a, y, span)
     } else {
         Err(StepEnd::Wrong)
@@ -392,7 +393,7 @@ fn take(
 fn next(alloc: Global, end: u32, r: Reduced, y: Symbol, span: Span) -> Result<Next, StepEnd>
     ensures { (env : Env) → Gives env result (machine.next end env (view_reduced r) (view_symbol y.entry) span) }
 {
-    if r.place.place() <= tight(y) {
+    if r.place.get().place() <= tight(y) {
         take(alloc, r.id, r.had, r.place, r.expr, y, span)
     } else {
         close(alloc, r.id, end, r.had.deep, r.place, r.expr, y, span)
@@ -405,12 +406,12 @@ fn after(
     id: u32,
     end: u32,
     h: Had,
-    k: Box<InExpr>,
+    k: ExprPlace,
     a: Expr,
     y: Symbol,
     span: Span,
 ) -> Result<Next, StepEnd>
-    ensures { (env : Env) → Gives env result (machine.after id end env (view_had h) (view_in_expr k.value) (shown a) (view_symbol y.entry) span) }
+    ensures { (env : Env) → Gives env result (machine.after id end env (view_had h) (view_expr_place k) (shown a) (view_symbol y.entry) span) }
 {
     let r = reduce(alloc, id, end, h, k, a, tight(y))?;
     next(alloc, end, r, y, span)
@@ -431,11 +432,11 @@ fn more_text(
     alloc: Global,
     id: u32,
     from: u32,
-    k: Box<InExpr>,
+    k: ExprPlace,
     pieces: Items<Bytes>,
     x: &[u8],
 ) -> Result<Next, StepEnd>
-    ensures { (env : Env) → Gives env result (reader.go_on id env (reader.expr (reader.after_text from (view_in_expr k.value) (pieces ++ x.now ∷ [])))) }
+    ensures { (env : Env) → Gives env result (reader.go_on id env (reader.expr (reader.after_text from (view_expr_place k) (pieces ++ x.now ∷ [])))) }
 {
     let pieces = with_piece(alloc, pieces, x)?;
     Ok(Next::at_expr(id, ExprMode::AfterText(from, k, pieces)))
@@ -447,12 +448,12 @@ fn text_done(
     id: u32,
     end: u32,
     from: u32,
-    k: Box<InExpr>,
+    k: ExprPlace,
     pieces: Items<Bytes>,
     y: Symbol,
     span: Span,
 ) -> Result<Next, StepEnd>
-    ensures { (env : Env) → Gives env result (machine.after (suc id) end env (parts.leaf from) (view_in_expr k.value) (marked.Text (parts.mark from end id) pieces) (view_symbol y.entry) span) }
+    ensures { (env : Env) → Gives env result (machine.after (suc id) end env (parts.leaf from) (view_expr_place k) (marked.Text (parts.mark from end id) pieces) (view_symbol y.entry) span) }
 {
     let next = following(id)?;
     let a = text(mark(from, end, id), pieces);
@@ -464,12 +465,12 @@ fn text_next(
     id: u32,
     end: u32,
     from: u32,
-    k: Box<InExpr>,
+    k: ExprPlace,
     pieces: Items<Bytes>,
     y: Symbol,
     span: Span,
 ) -> Result<Next, StepEnd>
-    ensures { (env : Env) → Gives env result (machine.text_next id end env from (view_in_expr k.value) pieces (view_symbol y.entry) span) }
+    ensures { (env : Env) → Gives env result (machine.text_next id end env from (view_expr_place k) pieces (view_symbol y.entry) span) }
 {
     match y {
         Symbol::Text(x) => more_text(alloc, id, from, k, pieces, x),
@@ -483,13 +484,13 @@ fn begin_type(
     id: u32,
     o: Open,
     place: TypePlace,
-    k: Box<InExpr>,
+    k: ExprPlace,
     y: Symbol,
     span: Span,
 ) -> Result<Next, StepEnd>
-    ensures { (env : Env) → Gives env result (begin.begin_specs id env (reader.of_type (view_open o) (view_place place) (view_in_expr k.value)) (view_symbol y.entry) span) }
+    ensures { (env : Env) → Gives env result (begin.begin_specs id env (reader.of_type (view_open o) (view_place place) (view_expr_place k)) (view_symbol y.entry) span) }
 {
-    let inner = Box::new(alloc, InSpecs::Type(o, place, k))?;
+    let inner = SpecsPlace::new(alloc, SpecsFrame::Type(o, place, k))?;
     begin_specs(alloc, id, inner, y, span)
 }
 
@@ -498,13 +499,13 @@ fn open_cast(
     alloc: Global,
     id: u32,
     o: Open,
-    k: Box<InExpr>,
+    k: ExprPlace,
     y: Symbol,
     span: Span,
 ) -> Result<Next, StepEnd>
-    ensures { (env : Env) → Gives env result (machine.open_cast id env (view_open o) (view_in_expr k.value) (view_symbol y.entry) span) }
+    ensures { (env : Env) → Gives env result (machine.open_cast id env (view_open o) (view_expr_place k) (view_symbol y.entry) span) }
 {
-    if k.place() <= 14 {
+    if k.get().place() <= 14 {
         begin_type(alloc, id, o, TypePlace::Cast, k, y, span)
     } else {
         Err(StepEnd::Wrong)
@@ -516,13 +517,13 @@ fn open_paren(
     names: &Names,
     id: u32,
     o: Open,
-    k: Box<InExpr>,
+    k: ExprPlace,
     y: Symbol,
     span: Span,
 ) -> Result<Next, StepEnd>
-    ensures { Gives names.now result (begin.want id names.now (reader.in_bracket (view_open o) reader.of_paren (view_in_expr k.value)) (view_symbol y.entry) span) }
+    ensures { Gives names.now result (begin.want id names.now (reader.in_bracket (view_open o) reader.of_paren (view_expr_place k)) (view_symbol y.entry) span) }
 {
-    let place = Box::new(alloc, InExpr::Bracket(o, Bracket::Paren, k))?;
+    let place = ExprPlace::new(alloc, ExprFrame::Bracket(o, Bracket::Paren, k))?;
     want(alloc, names, id, place, y, span)
 }
 
@@ -532,11 +533,11 @@ fn paren_next(
     names: &Names,
     id: u32,
     o: Open,
-    k: Box<InExpr>,
+    k: ExprPlace,
     y: Symbol,
     span: Span,
 ) -> Result<Next, StepEnd>
-    ensures { Gives names.now result (machine.paren_next id names.now (view_open o) (view_in_expr k.value) (view_symbol y.entry) span) }
+    ensures { Gives names.now result (machine.paren_next id names.now (view_open o) (view_expr_place k) (view_symbol y.entry) span) }
 {
     if begins_specs(names, false, y) {
         open_cast(alloc, id, o, k, y, span)
@@ -549,11 +550,11 @@ fn open_sizeof(
     alloc: Global,
     id: u32,
     o: Open,
-    k: Box<InExpr>,
+    k: ExprPlace,
     y: Symbol,
     span: Span,
 ) -> Result<Next, StepEnd>
-    ensures { (env : Env) → Gives env result (begin.begin_specs id env (reader.of_type (view_open o) reader.sizeof_type (view_in_expr k.value)) (view_symbol y.entry) span) }
+    ensures { (env : Env) → Gives env result (begin.begin_specs id env (reader.of_type (view_open o) reader.sizeof_type (view_expr_place k)) (view_symbol y.entry) span) }
 {
     begin_type(alloc, id, o, TypePlace::Sizeof, k, y, span)
 }
@@ -564,13 +565,13 @@ fn want_sizeof(
     names: &Names,
     id: u32,
     o: Open,
-    k: Box<InExpr>,
+    k: ExprPlace,
     y: Symbol,
     span: Span,
 ) -> Result<Next, StepEnd>
-    ensures { Gives names.now result (begin.want id names.now (reader.in_operand (view_open o) reader.of_sizeof (view_in_expr k.value)) (view_symbol y.entry) span) }
+    ensures { Gives names.now result (begin.want id names.now (reader.in_operand (view_open o) reader.of_sizeof (view_expr_place k)) (view_symbol y.entry) span) }
 {
-    let place = Box::new(alloc, InExpr::Operand(o, Operand::Sizeof, k))?;
+    let place = ExprPlace::new(alloc, ExprFrame::Operand(o, Operand::Sizeof, k))?;
     want(alloc, names, id, place, y, span)
 }
 
@@ -581,14 +582,14 @@ fn paren_sizeof(
     id: u32,
     o: Open,
     paren_from: u32,
-    k: Box<InExpr>,
+    k: ExprPlace,
     y: Symbol,
     span: Span,
 ) -> Result<Next, StepEnd>
-    ensures { Gives names.now result (begin.want id names.now (reader.in_bracket (parts.opens (view_open o).level paren_from) reader.of_paren (reader.in_operand (view_open o) reader.of_sizeof (view_in_expr k.value))) (view_symbol y.entry) span) }
+    ensures { Gives names.now result (begin.want id names.now (reader.in_bracket (parts.opens (view_open o).level paren_from) reader.of_paren (reader.in_operand (view_open o) reader.of_sizeof (view_expr_place k))) (view_symbol y.entry) span) }
 {
     let inner = Open::at(o.level, paren_from)?;
-    let place = Box::new(alloc, InExpr::Operand(o, Operand::Sizeof, k))?;
+    let place = ExprPlace::new(alloc, ExprFrame::Operand(o, Operand::Sizeof, k))?;
     open_paren(alloc, names, id, inner, place, y, span)
 }
 
@@ -598,11 +599,11 @@ fn sizeof_paren_next(
     id: u32,
     o: Open,
     paren_from: u32,
-    k: Box<InExpr>,
+    k: ExprPlace,
     y: Symbol,
     span: Span,
 ) -> Result<Next, StepEnd>
-    ensures { Gives names.now result (machine.sizeof_paren_next id names.now (view_open o) paren_from (view_in_expr k.value) (view_symbol y.entry) span) }
+    ensures { Gives names.now result (machine.sizeof_paren_next id names.now (view_open o) paren_from (view_expr_place k) (view_symbol y.entry) span) }
 {
     if begins_specs(names, false, y) {
         open_sizeof(alloc, id, o, k, y, span)
@@ -616,11 +617,11 @@ fn sizeof_next(
     names: &Names,
     id: u32,
     o: Open,
-    k: Box<InExpr>,
+    k: ExprPlace,
     y: Symbol,
     span: Span,
 ) -> Result<Next, StepEnd>
-    ensures { Gives names.now result (machine.sizeof_next id names.now (view_open o) (view_in_expr k.value) (view_symbol y.entry) span) }
+    ensures { Gives names.now result (machine.sizeof_next id names.now (view_open o) (view_expr_place k) (view_symbol y.entry) span) }
 {
     match y {
         Symbol::LeftParen => Ok(Next::at_expr(id, ExprMode::SizeofOpened(o, span.start, k))),
@@ -634,12 +635,12 @@ fn empty_call(
     id: u32,
     o: Open,
     f: Expr,
-    k: Box<InExpr>,
+    k: ExprPlace,
     span: Span,
 ) -> Result<Next, StepEnd>
-    ensures { (env : Env) → Gives env result (reader.go_on (suc id) env (reader.expr (reader.after_expr (parts.closed (view_open o) 0) (view_in_expr k.value) (marked.Call (parts.mark o.from span.end id) (shown f) marked.no_exprs)))) }
+    ensures { (env : Env) → Gives env result (reader.go_on (suc id) env (reader.expr (reader.after_expr (parts.closed (view_open o) 0) (view_expr_place k) (marked.Call (parts.mark o.from span.end id) (shown f) marked.no_exprs)))) }
 {
-    let whole = call(alloc, mark(o.from, span.end, id), f, Items::new(alloc))?;
+    let whole = call(alloc, mark(o.from, span.end, id), f, Exprs::new(alloc))?;
     is_whole(id, o, 0, k, whole)
 }
 
@@ -649,14 +650,14 @@ fn first_arg(
     id: u32,
     o: Open,
     f: Expr,
-    k: Box<InExpr>,
+    k: ExprPlace,
     y: Symbol,
     span: Span,
 ) -> Result<Next, StepEnd>
-    ensures { Gives names.now result (begin.want id names.now (reader.in_bracket (view_open o) (reader.of_args (reader.of_function (shown f)) []) (view_in_expr k.value)) (view_symbol y.entry) span) }
+    ensures { Gives names.now result (begin.want id names.now (reader.in_bracket (view_open o) (reader.of_args (reader.of_function (shown f)) []) (view_expr_place k)) (view_symbol y.entry) span) }
 {
-    let b = Bracket::Args(Callee::Function(f), Items::new(alloc));
-    let place = Box::new(alloc, InExpr::Bracket(o, b, k))?;
+    let b = Bracket::Args(Callee::Function(f), Exprs::new(alloc));
+    let place = ExprPlace::new(alloc, ExprFrame::Bracket(o, b, k))?;
     want(alloc, names, id, place, y, span)
 }
 
@@ -667,11 +668,11 @@ fn args_begin(
     id: u32,
     o: Open,
     f: Expr,
-    k: Box<InExpr>,
+    k: ExprPlace,
     y: Symbol,
     span: Span,
 ) -> Result<Next, StepEnd>
-    ensures { Gives names.now result (machine.args_begin id names.now (view_open o) (shown f) (view_in_expr k.value) (view_symbol y.entry) span) }
+    ensures { Gives names.now result (machine.args_begin id names.now (view_open o) (shown f) (view_expr_place k) (view_symbol y.entry) span) }
 {
     match y {
         Symbol::RightParen => empty_call(alloc, id, o, f, k, span),
@@ -680,14 +681,14 @@ fn args_begin(
 }
 
 /// The parenthesis of the builtin.
-fn builtin_opened(alloc: Global, id: u32, o: Open, k: Box<InExpr>) -> Result<Next, StepEnd>
-    ensures { (env : Env) → Gives env result (reader.go_on id env (reader.expr (reader.want_expr (reader.in_bracket (view_open o) (reader.of_args reader.of_builtin []) (view_in_expr k.value))))) }
+fn builtin_opened(alloc: Global, id: u32, o: Open, k: ExprPlace) -> Result<Next, StepEnd>
+    ensures { (env : Env) → Gives env result (reader.go_on id env (reader.expr (reader.want_expr (reader.in_bracket (view_open o) (reader.of_args reader.of_builtin []) (view_expr_place k))))) }
 {
-    next_arg(alloc, id, o, k, Callee::Builtin, Items::new(alloc))
+    next_arg(alloc, id, o, k, Callee::Builtin, Exprs::new(alloc))
 }
 
-fn builtin_next(alloc: Global, id: u32, o: Open, k: Box<InExpr>, y: Symbol) -> Result<Next, StepEnd>
-    ensures { (env : Env) → Gives env result (machine.builtin_next id env (view_open o) (view_in_expr k.value) (view_symbol y.entry)) }
+fn builtin_next(alloc: Global, id: u32, o: Open, k: ExprPlace, y: Symbol) -> Result<Next, StepEnd>
+    ensures { (env : Env) → Gives env result (machine.builtin_next id env (view_open o) (view_expr_place k) (view_symbol y.entry)) }
 {
     match y {
         Symbol::LeftParen => builtin_opened(alloc, id, o, k),
@@ -710,11 +711,11 @@ fn member_next(
     o: Open,
     a: Expr,
     m: Member,
-    k: Box<InExpr>,
+    k: ExprPlace,
     y: Symbol,
     span: Span,
 ) -> Result<Next, StepEnd>
-    ensures { (env : Env) → Gives env result (machine.member_next id env (view_open o) (shown a) (view_member m) (view_in_expr k.value) (view_symbol y.entry) span) }
+    ensures { (env : Env) → Gives env result (machine.member_next id env (view_open o) (shown a) (view_member m) (view_expr_place k) (view_symbol y.entry) span) }
 {
     match y {
         Symbol::Name(x) => {

@@ -4,6 +4,5 @@
 mod on_specifier;
 
 pub use on_specifier::{
-    add_enumerator, enumerator_begin, enumerator_end, enumerator_next, field_begin, specs_next,
-    tag_next, tagged_next,
+    enumerator_begin, enumerator_next, field_begin, specs_next, tag_next, tagged_next,
 };

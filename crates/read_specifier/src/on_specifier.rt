@@ -11,60 +11,30 @@ ghost use Rattle.c_reader.specs.MarkedParts as parts;
 ghost use Rattle.c_reader.specs.MarkedSpecs as reader;
 ghost use Rattle.c_stack.specs.Gives.{Gives};
 ghost use Rattle.c_stack.specs.Seen.{view_operator, view_symbol, view_tagged};
-ghost use Rattle.c_stack.specs.Shown.{shown_enumerator, shown_field, shown_spec, shown_value};
-ghost use Rattle.c_stack.specs.Views.{view_in_declarator, view_in_enum, view_in_fields, view_in_specs, view_open, view_specs_read};
+ghost use Rattle.c_stack.specs.Shown.{shown_field, shown_spec};
+ghost use Rattle.c_stack.specs.Views.{view_declarator_place, view_in_enum, view_in_fields, view_open, view_specs_place, view_specs_read};
 ghost use Rattle.c_stack.specs.declared.step.StepEnd.TheVariants.{NoMemory};
 
+use c_held::{Declarators, DeclaredItems, Enumerators, Fields};
 use c_stack::inside::{
-    EnumRead, ExprMode, InDeclarator, InEnum, InExpr, InFields, InSpecs, ItemsRead, Next, Open,
-    RecordRead, SpecsMode, SpecsRead,
+    EnumRead, ExprMode, InEnum, InFields, ItemsRead, Next, Open, RecordRead, SpecsMode, SpecsRead,
 };
 use c_stack::make::mark;
 use c_stack::names::Names;
-use c_stack::parts::{
-    all_specs, enum_tag, enumeration, enumerator, no_value, record, record_tag, with_enumerator,
+use c_stack::numbers::ending;
+use c_stack::parts::{all_specs, enum_tag, no_value, record, record_tag};
+use c_stack::place::{
+    DeclaratorFrame, DeclaratorPlace, ExprFrame, ExprPlace, SpecsFrame, SpecsPlace,
 };
 use c_stack::step::{StepEnd, following};
-use c_stack::symbol::{Operator, Symbol, Tagged};
-use c_tree::{At, Enumerator, Expr, Field, Spec};
-use read_begin::{begins_specs, ending, first_spec, is_equals, open_spec};
-use read_declarator::declarator_begin;
+use c_stack::symbol::{Operator, Symbol, Tagged, is_equals};
+use c_tree::{At, Spec};
+use read_begin::{begins_specs, first_spec, open_spec};
+use read_end::{add_enumerator, close_enum, declarator_begin, enumerator_end};
 use std::alloc::Global;
 use tok_base::{Bytes, Items, Span};
 
 // ---- parts
-
-/// The enumeration with one more enumerator, which ends with the last token; `deep` is the depth of its
-/// value.
-pub fn add_enumerator(
-    id: u32,
-    end: u32,
-    o: Open,
-    deep: u32,
-    k: InEnum,
-    name: Bytes,
-    value: Option<Box<Expr>>,
-) -> Result<InEnum, StepEnd>
-    ensures ok { IfOk result (λ q. view_in_enum q ≡ reader.add_enumerator id end (view_open o) deep (view_in_enum k) name (shown_value value)) }
-    ensures err { IfErr result (λ e. e ≡ NoMemory) }
-{
-    let whole = o.whole(deep)?;
-    let InEnum { read, place } = k;
-    let EnumRead {
-        node,
-        tag,
-        list,
-        specs,
-    } = read;
-    let list = with_enumerator(list, enumerator(mark(o.from, end, id), name, value))?;
-    let read = EnumRead {
-        node: node.with_part(whole),
-        tag,
-        list,
-        specs,
-    };
-    Ok(InEnum { read, place })
-}
 
 fn tag_spec(at: At, g: Tagged, tag: Bytes) -> Spec
     ensures { shown_spec result ≡ reader.tag_spec at (view_tagged g) tag }
@@ -78,8 +48,8 @@ fn tag_spec(at: At, g: Tagged, tag: Bytes) -> Spec
 // ---- specifiers
 
 /// Where the declarator behind the specifiers stands.
-fn behind(alloc: Global, ss: SpecsRead, k: Box<InSpecs>) -> Result<Box<InDeclarator>, StepEnd>
-    ensures ok { IfOk result (λ place. view_in_declarator place.value ≡ reader.behind (view_specs_read ss) (view_in_specs k.value)) }
+fn behind(alloc: Global, ss: SpecsRead, k: SpecsPlace) -> Result<DeclaratorPlace, StepEnd>
+    ensures ok { IfOk result (λ place. view_declarator_place place ≡ reader.behind (view_specs_read ss) (view_specs_place k)) }
     ensures err { IfErr result (λ e. e ≡ NoMemory) }
 {
     let SpecsRead {
@@ -89,21 +59,27 @@ fn behind(alloc: Global, ss: SpecsRead, k: Box<InSpecs>) -> Result<Box<InDeclara
         typedef,
     } = ss;
     let specs = all_specs(specs);
-    let place = match Box::into_inner(k) {
-        InSpecs::Declaration(place) => {
+    let place = match k.open() {
+        SpecsFrame::Declaration(place) => {
             let read = ItemsRead {
                 node,
                 specs,
                 typedef,
-                items: Items::new(alloc),
+                items: DeclaredItems::new(alloc),
             };
-            InDeclarator::Item(read, place)
+            DeclaratorFrame::Item(read, place)
         }
-        InSpecs::Field(f, k) => InDeclarator::Field(node, f, k, specs, Items::new(alloc)),
-        InSpecs::Param(p, k) => InDeclarator::Param(node, p, k, specs),
-        InSpecs::Type(o, place, k) => InDeclarator::Type(o, node, place, k, specs),
+        SpecsFrame::Field(f, k) => DeclaratorFrame::Field(
+            node,
+            f,
+            k,
+            specs,
+            Declarators::new(alloc),
+        ),
+        SpecsFrame::Param(p, k) => DeclaratorFrame::Param(node, p, k, specs),
+        SpecsFrame::Type(o, place, k) => DeclaratorFrame::Type(o, node, place, k, specs),
     };
-    Ok(Box::new(alloc, place)?)
+    Ok(DeclaratorPlace::new(alloc, place)?)
 }
 
 /// The token behind specifiers.
@@ -113,11 +89,11 @@ pub fn specs_next(
     id: u32,
     end: u32,
     ss: SpecsRead,
-    k: Box<InSpecs>,
+    k: SpecsPlace,
     y: Symbol,
     span: Span,
 ) -> Result<Next, StepEnd>
-    ensures { Gives names.now result (reader.specs_next id end names.now (view_specs_read ss) (view_in_specs k.value) (view_symbol y.entry) span) }
+    ensures { Gives names.now result (reader.specs_next id end names.now (view_specs_read ss) (view_specs_place k) (view_symbol y.entry) span) }
 {
     if begins_specs(names, ss.seen, y) {
         open_spec(alloc, id, ss, k, y, span)
@@ -137,9 +113,9 @@ fn tagged_opened(
     g: Tagged,
     tag: Option<Bytes>,
     ss: SpecsRead,
-    k: Box<InSpecs>,
+    k: SpecsPlace,
 ) -> Result<Next, StepEnd>
-    ensures { (env : Env) → Gives env result (reader.tagged_opened id env (view_open o) (view_tagged g) tag (view_specs_read ss) (view_in_specs k.value)) }
+    ensures { (env : Env) → Gives env result (reader.tagged_opened id env (view_open o) (view_tagged g) tag (view_specs_read ss) (view_specs_place k)) }
 {
     match g {
         Tagged::Record(is_union) => Ok(Next::at_specs(
@@ -149,7 +125,7 @@ fn tagged_opened(
                     node: o,
                     is_union,
                     tag,
-                    fields: Items::new(alloc),
+                    fields: Fields::new(alloc),
                     specs: ss,
                 },
                 place: k,
@@ -161,7 +137,7 @@ fn tagged_opened(
                 read: EnumRead {
                     node: o,
                     tag,
-                    list: Items::new(alloc),
+                    list: Enumerators::new(alloc),
                     specs: ss,
                 },
                 place: k,
@@ -177,10 +153,10 @@ pub fn tagged_next(
     o: Open,
     g: Tagged,
     ss: SpecsRead,
-    k: Box<InSpecs>,
+    k: SpecsPlace,
     y: Symbol,
 ) -> Result<Next, StepEnd>
-    ensures { (env : Env) → Gives env result (reader.tagged_next id env (view_open o) (view_tagged g) (view_specs_read ss) (view_in_specs k.value) (view_symbol y.entry)) }
+    ensures { (env : Env) → Gives env result (reader.tagged_next id env (view_open o) (view_tagged g) (view_specs_read ss) (view_specs_place k) (view_symbol y.entry)) }
 {
     match y {
         Symbol::Name(text) => {
@@ -202,11 +178,11 @@ fn tag_done(
     g: Tagged,
     tag: Bytes,
     ss: SpecsRead,
-    k: Box<InSpecs>,
+    k: SpecsPlace,
     y: Symbol,
     span: Span,
 ) -> Result<Next, StepEnd>
-    ensures { Gives names.now result (reader.specs_next (suc id) end names.now (parts.add_type (view_specs_read ss) (parts.whole (view_open o) 0) (reader.tag_spec (parts.mark o.from end id) (view_tagged g) tag)) (view_in_specs k.value) (view_symbol y.entry) span) }
+    ensures { Gives names.now result (reader.specs_next (suc id) end names.now (parts.add_type (view_specs_read ss) (parts.whole (view_open o) 0) (reader.tag_spec (parts.mark o.from end id) (view_tagged g) tag)) (view_specs_place k) (view_symbol y.entry) span) }
 {
     let (next, deep) = ending(id, o, 0)?;
     let ss = ss.with_type(deep, tag_spec(mark(o.from, end, id), g, tag))?;
@@ -223,11 +199,11 @@ pub fn tag_next(
     g: Tagged,
     tag: Bytes,
     ss: SpecsRead,
-    k: Box<InSpecs>,
+    k: SpecsPlace,
     y: Symbol,
     span: Span,
 ) -> Result<Next, StepEnd>
-    ensures { Gives names.now result (reader.tag_next id end names.now (view_open o) (view_tagged g) tag (view_specs_read ss) (view_in_specs k.value) (view_symbol y.entry) span) }
+    ensures { Gives names.now result (reader.tag_next id end names.now (view_open o) (view_tagged g) tag (view_specs_read ss) (view_specs_place k) (view_symbol y.entry) span) }
 {
     match y {
         Symbol::LeftBrace => tagged_opened(alloc, id, o, g, Some(tag), ss, k),
@@ -238,7 +214,7 @@ pub fn tag_next(
 // ---- fields
 
 /// Whether a record has no fields.
-fn lacks_fields(fields: &Items<Field>) -> bool
+fn lacks_fields(fields: &Fields) -> bool
     ensures { result ≡ machine.is_empty (map shown_field fields.now) }
 {
     fields.is_empty()
@@ -276,7 +252,7 @@ fn field_specs(
 ) -> Result<Next, StepEnd>
     ensures { Gives names.now result (begun.first_spec id names.now (inside.of_field (view_in_fields f)) (view_symbol y.entry) span) }
 {
-    let place = Box::new(alloc, InSpecs::Field(f.read, f.place))?;
+    let place = SpecsPlace::new(alloc, SpecsFrame::Field(f.read, f.place))?;
     first_spec(alloc, names, id, place, y, span)
 }
 
@@ -299,33 +275,6 @@ pub fn field_begin(
 
 // ---- enumerators
 
-/// Whether an enumeration has no enumerators.
-fn lacks_enumerators(list: &Items<Enumerator>) -> bool
-    ensures { result ≡ machine.is_empty (map shown_enumerator list.now) }
-{
-    list.is_empty()
-}
-
-/// The right brace of an enumeration.
-fn close_enum(id: u32, k: InEnum, has_comma: bool, span: Span) -> Result<Next, StepEnd>
-    ensures { (env : Env) → Gives env result (reader.close_enum id env (view_in_enum k) has_comma span) }
-{
-    let InEnum { read, place } = k;
-    if lacks_enumerators(&read.list) {
-        return Err(StepEnd::Wrong);
-    }
-    let (next, deep) = ending(id, read.node, 0)?;
-    let EnumRead {
-        node,
-        tag,
-        list,
-        specs,
-    } = read;
-    let whole = enumeration(mark(node.from, span.end, id), tag, list, has_comma);
-    let specs = specs.with_type(deep, whole)?;
-    Ok(Next::at_specs(next, SpecsMode::InSpecs(specs, place)))
-}
-
 /// The token where an enumerator may begin.
 pub fn enumerator_begin(
     alloc: Global,
@@ -347,17 +296,6 @@ pub fn enumerator_begin(
     }
 }
 
-/// The token behind an enumerator.
-pub fn enumerator_end(id: u32, k: InEnum, y: Symbol, span: Span) -> Result<Next, StepEnd>
-    ensures { (env : Env) → Gives env result (reader.enumerator_end id env (view_in_enum k) (view_symbol y.entry) span) }
-{
-    match y {
-        Symbol::Comma => Ok(Next::at_specs(id, SpecsMode::WantEnumerator(k))),
-        Symbol::RightBrace => close_enum(id, k, false, span),
-        _ => Err(StepEnd::Wrong),
-    }
-}
-
 /// The operator behind an enumerator's name, which must be `=`.
 fn value_begin(
     alloc: Global,
@@ -370,7 +308,7 @@ fn value_begin(
     ensures { (env : Env) → Gives env result (if items.is_equals (view_operator operator) then inside.go_on id env (inside.expr (inside.want_expr (inside.in_value (view_open o) name (view_in_enum k)))) else None) }
 {
     if is_equals(operator) {
-        let place = Box::new(alloc, InExpr::Value(o, name, k.read, k.place))?;
+        let place = ExprPlace::new(alloc, ExprFrame::Value(o, name, k.read, k.place))?;
         Ok(Next::at_expr(id, ExprMode::WantExpr(place)))
     } else {
         Err(StepEnd::Wrong)

@@ -10,6 +10,7 @@ ghost use Rattle.c_stack.specs.Shown.{shown_argument, shown_attribute, shown_ent
 ghost use Rattle.c_stack.specs.Views.{view_argument_read, view_attribute_mode, view_in_attribute, view_item_read, view_open};
 ghost use Rattle.c_stack.specs.declared.inside.Mode.TheVariants as modes;
 
+use c_held::{Arguments, Entries};
 use c_stack::inside::{
     ArgumentRead, AttributeMode, InAttribute, ItemHead, ItemRead, Mode, Next, Open, SpecsMode,
 };
@@ -20,7 +21,7 @@ use c_stack::parts::{
 };
 use c_stack::step::{StepEnd, following};
 use c_stack::symbol::Symbol;
-use c_tree::{At, Attribute, AttributeArgument, Entry};
+use c_tree::{At, Attribute, AttributeArgument};
 use std::alloc::{AllocError, Global};
 use tok_base::{Bytes, Items, Span};
 
@@ -127,7 +128,7 @@ fn entry_begin(
     id: u32,
     o: Open,
     a: InAttribute,
-    entries: Items<Entry>,
+    entries: Entries,
     y: Symbol,
 ) -> Result<Next, StepEnd>
     ensures { (env : Env) → Gives env result (reader.entry_begin id env (view_open o) (view_in_attribute a) (map shown_entry entries) (view_symbol y.entry)) }
@@ -145,7 +146,7 @@ fn entry_begin(
 fn first_entry(alloc: Global, id: u32, o: Open, a: InAttribute, y: Symbol) -> Result<Next, StepEnd>
     ensures { (env : Env) → Gives env result (reader.entry_begin id env (view_open o) (view_in_attribute a) [] (view_symbol y.entry)) }
 {
-    entry_begin(alloc, id, o, a, Items::new(alloc), y)
+    entry_begin(alloc, id, o, a, Entries::new(alloc), y)
 }
 
 /// The token behind both parentheses.
@@ -160,7 +161,7 @@ fn entries_begin(
 {
     match y {
         Symbol::RightParen => {
-            let entries = Items::new(alloc);
+            let entries = Entries::new(alloc);
             Ok(attribute_at(id, o, a, AttributeMode::Closing(entries)))
         }
         _ => first_entry(alloc, id, o, a, y),
@@ -168,13 +169,7 @@ fn entries_begin(
 }
 
 /// The token behind an entry.
-fn entry_end(
-    id: u32,
-    o: Open,
-    a: InAttribute,
-    entries: Items<Entry>,
-    y: Symbol,
-) -> Result<Next, StepEnd>
+fn entry_end(id: u32, o: Open, a: InAttribute, entries: Entries, y: Symbol) -> Result<Next, StepEnd>
     ensures { (env : Env) → Gives env result (reader.entry_end id env (view_open o) (view_in_attribute a) (map shown_entry entries) (view_symbol y.entry)) }
 {
     match y {
@@ -189,7 +184,7 @@ fn plain_entry(
     id: u32,
     o: Open,
     a: InAttribute,
-    entries: Items<Entry>,
+    entries: Entries,
     name: Bytes,
     y: Symbol,
 ) -> Result<Next, StepEnd>
@@ -204,7 +199,7 @@ fn entry_next(
     id: u32,
     o: Open,
     a: InAttribute,
-    entries: Items<Entry>,
+    entries: Entries,
     name: Bytes,
     y: Symbol,
 ) -> Result<Next, StepEnd>
@@ -224,9 +219,9 @@ fn argument_begin(
     id: u32,
     o: Open,
     a: InAttribute,
-    entries: Items<Entry>,
+    entries: Entries,
     name: Bytes,
-    arguments: Items<AttributeArgument>,
+    arguments: Arguments,
     y: Symbol,
     span: Span,
 ) -> Result<Next, StepEnd>
@@ -254,14 +249,24 @@ fn first_argument(
     id: u32,
     o: Open,
     a: InAttribute,
-    entries: Items<Entry>,
+    entries: Entries,
     name: Bytes,
     y: Symbol,
     span: Span,
 ) -> Result<Next, StepEnd>
     ensures { (env : Env) → Gives env result (reader.argument_begin id env (view_open o) (view_in_attribute a) (map shown_entry entries) name [] (view_symbol y.entry) span) }
 {
-    argument_begin(alloc, id, o, a, entries, name, Items::new(alloc), y, span)
+    argument_begin(
+        alloc,
+        id,
+        o,
+        a,
+        entries,
+        name,
+        Arguments::new(alloc),
+        y,
+        span,
+    )
 }
 
 /// The token behind the parenthesis of an entry.
@@ -270,7 +275,7 @@ fn arguments_begin(
     id: u32,
     o: Open,
     a: InAttribute,
-    entries: Items<Entry>,
+    entries: Entries,
     name: Bytes,
     y: Symbol,
     span: Span,
@@ -279,7 +284,7 @@ fn arguments_begin(
 {
     match y {
         Symbol::RightParen => {
-            let entries = with_entry(entries, name, Items::new(alloc))?;
+            let entries = with_entry(entries, name, Arguments::new(alloc))?;
             Ok(attribute_at(id, o, a, AttributeMode::AfterEntry(entries)))
         }
         _ => first_argument(alloc, id, o, a, entries, name, y, span),
@@ -293,9 +298,9 @@ fn text_more(
     o: Open,
     from: u32,
     a: InAttribute,
-    entries: Items<Entry>,
+    entries: Entries,
     name: Bytes,
-    arguments: Items<AttributeArgument>,
+    arguments: Arguments,
     read: ArgumentRead,
     text: &[u8],
 ) -> Result<Next, StepEnd>
@@ -319,9 +324,9 @@ fn argument_next(
     o: Open,
     from: u32,
     a: InAttribute,
-    entries: Items<Entry>,
+    entries: Entries,
     name: Bytes,
-    arguments: Items<AttributeArgument>,
+    arguments: Arguments,
     read: ArgumentRead,
     y: Symbol,
 ) -> Result<Next, StepEnd>
@@ -354,7 +359,7 @@ fn close_attribute(
     id: u32,
     o: Open,
     a: InAttribute,
-    entries: Items<Entry>,
+    entries: Entries,
     y: Symbol,
     span: Span,
 ) -> Result<Next, StepEnd>

@@ -12,31 +12,34 @@ ghost use Rattle.c_reader.specs.Stmts as machine;
 ghost use Rattle.c_stack.specs.Gives.{Gives};
 ghost use Rattle.c_stack.specs.Seen.{view_head, view_symbol};
 ghost use Rattle.c_stack.specs.Shown.{shown, shown_block_item, shown_declarator, shown_external, shown_first, shown_maybe, shown_specs, shown_stmt};
-ghost use Rattle.c_stack.specs.Views.{view_condition, view_in_body, view_in_declaration, view_in_expr, view_in_stmt, view_open, view_part, view_stmt_mode, view_unended};
+ghost use Rattle.c_stack.specs.Views.{view_body_frame, view_body_place, view_condition, view_declaration_frame, view_expr_place, view_open, view_part, view_stmt_mode, view_stmt_place, view_unended};
 ghost use Rattle.c_stack.specs.declared.step.StepEnd.TheVariants.{NoMemory};
 
-use c_stack::inside::{
-    Condition, ExprMode, InBody, InDeclaration, InExpr, InSpecs, InStmt, Mode, Next, Open, Part,
-    StmtMode, Unended,
-};
+use c_held::{BlockItems, Declarator, Expr, Externals, ForFirst, Specs, Stmt};
+use c_stack::inside::{Condition, ExprMode, Mode, Next, Open, Part, StmtMode, Unended};
 use c_stack::make::{mark, no_expr};
 use c_stack::names::Names;
+use c_stack::numbers::{ending, refuse};
+use c_stack::place::{
+    BodyFrame, BodyPlace, DeclarationFrame, DeclarationPlace, ExprFrame, ExprPlace, SpecsFrame,
+    SpecsPlace, StmtFrame, StmtPlace,
+};
 use c_stack::statements::{
     block, break_, continue_, defines, do_while, empty, first_expr, for_, if_, if_else, return_,
     statement_item, while_, with_block_item, with_external,
 };
 use c_stack::step::{StepEnd, following};
 use c_stack::symbol::{Head, Symbol};
-use c_tree::{At, BlockItem, Declarator, Expr, External, ForFirst, Spec, Stmt};
-use read_begin::{begin_specs, begins_specs, ending, refuse, want};
+use c_tree::At;
+use read_begin::{begin_specs, begins_specs, want};
 use std::alloc::{AllocError, Global};
-use tok_base::{Items, Span};
+use tok_base::Span;
 
 /// The place of a statement's expression.
-fn in_stmt(alloc: Global, o: Open, part: Part, k: Box<InStmt>) -> Result<Box<InExpr>, AllocError>
-    ensures { IfOk result (λ x. view_in_expr x.value ≡ inside.in_stmt (view_open o) (view_part part) (view_in_stmt k.value)) }
+fn in_stmt(alloc: Global, o: Open, part: Part, k: StmtPlace) -> Result<ExprPlace, AllocError>
+    ensures { IfOk result (λ x. view_expr_place x ≡ inside.in_stmt (view_open o) (view_part part) (view_stmt_place k)) }
 {
-    let place = Box::new(alloc, InExpr::Stmt(o, part, k))?;
+    let place = ExprPlace::new(alloc, ExprFrame::Stmt(o, part, k))?;
     Ok(place)
 }
 
@@ -47,11 +50,11 @@ fn want_part(
     id: u32,
     o: Open,
     part: Part,
-    k: Box<InStmt>,
+    k: StmtPlace,
     y: Symbol,
     span: Span,
 ) -> Result<Next, StepEnd>
-    ensures { Gives names.now result (begun.want id names.now (inside.in_stmt (view_open o) (view_part part) (view_in_stmt k.value)) (view_symbol y.entry) span) }
+    ensures { Gives names.now result (begun.want id names.now (inside.in_stmt (view_open o) (view_part part) (view_stmt_place k)) (view_symbol y.entry) span) }
 {
     let place = in_stmt(alloc, o, part, k)?;
     want(alloc, names, id, place, y, span)
@@ -60,24 +63,18 @@ fn want_part(
 // ---- where a statement is still to come
 
 /// The body of `do`.
-fn do_begin(alloc: Global, id: u32, o: Open, k: Box<InStmt>) -> Result<Next, StepEnd>
-    ensures { (env : Env) → Gives env result (inside.go_on id env (inside.stmt (inside.want_stmt (inside.in_do (view_open o) (view_in_stmt k.value))))) }
+fn do_begin(alloc: Global, id: u32, o: Open, k: StmtPlace) -> Result<Next, StepEnd>
+    ensures { (env : Env) → Gives env result (inside.go_on id env (inside.stmt (inside.want_stmt (inside.in_do (view_open o) (view_stmt_place k))))) }
 {
-    let place = Box::new(alloc, InStmt::Do(o, k))?;
+    let place = StmtPlace::new(alloc, StmtFrame::Do(o, k))?;
     Ok(Next::at_stmt(id, StmtMode::WantStmt(place)))
 }
 
 /// A word that begins a statement.
-fn head_begin(
-    alloc: Global,
-    id: u32,
-    k: Box<InStmt>,
-    head: Head,
-    span: Span,
-) -> Result<Next, StepEnd>
-    ensures { (env : Env) → Gives env result (reader.head_begin id env (view_in_stmt k.value) (view_head head) span) }
+fn head_begin(alloc: Global, id: u32, k: StmtPlace, head: Head, span: Span) -> Result<Next, StepEnd>
+    ensures { (env : Env) → Gives env result (reader.head_begin id env (view_stmt_place k) (view_head head) span) }
 {
-    let o = Open::at(k.around().level, span.start)?;
+    let o = Open::at(k.get().around().level, span.start)?;
     match head {
         Head::If => Ok(Next::at_stmt(id, StmtMode::WantParen(o, Condition::If, k))),
         Head::Else => Err(StepEnd::Wrong),
@@ -109,10 +106,10 @@ fn definition_done(
     o: Open,
     deep: u32,
     node: Open,
-    done: Items<External>,
-    specs: Items<Spec>,
+    done: Externals,
+    specs: Specs,
     declarator: Declarator,
-    items: Items<BlockItem>,
+    items: BlockItems,
     span: Span,
 ) -> Result<Next, StepEnd>
     ensures { (env : Env) → Gives env result (reader.block_done id env (view_open o) (inside.of_definition deep (view_open node) (map shown_external done) (shown_specs specs) (shown_declarator declarator)) (parts.items_of (map shown_block_item items)) span) }
@@ -130,8 +127,8 @@ fn definition_done(
 }
 
 /// A statement that ends with this token.
-fn stmt_done(id: u32, deep: u32, k: Box<InStmt>, a: Stmt) -> Result<Next, StepEnd>
-    ensures { (env : Env) → Gives env result (inside.go_on (suc id) env (inside.stmt (inside.after_stmt deep (view_in_stmt k.value) (shown_stmt a)))) }
+fn stmt_done(id: u32, deep: u32, k: StmtPlace, a: Stmt) -> Result<Next, StepEnd>
+    ensures { (env : Env) → Gives env result (inside.go_on (suc id) env (inside.stmt (inside.after_stmt deep (view_stmt_place k) (shown_stmt a)))) }
 {
     let next = following(id)?;
     Ok(Next::at_stmt(next, StmtMode::AfterStmt(deep, k, a)))
@@ -141,11 +138,11 @@ fn stmt_done(id: u32, deep: u32, k: Box<InStmt>, a: Stmt) -> Result<Next, StepEn
 fn block_stmt_done(
     id: u32,
     o: Open,
-    k: Box<InStmt>,
-    items: Items<BlockItem>,
+    k: StmtPlace,
+    items: BlockItems,
     span: Span,
 ) -> Result<Next, StepEnd>
-    ensures { (env : Env) → Gives env result (reader.block_done id env (view_open o) (inside.of_stmt (view_in_stmt k.value)) (parts.items_of (map shown_block_item items)) span) }
+    ensures { (env : Env) → Gives env result (reader.block_done id env (view_open o) (inside.of_stmt (view_stmt_place k)) (parts.items_of (map shown_block_item items)) span) }
 {
     let deep = o.whole(0)?;
     let a = block(mark(o.from, span.end, id), items);
@@ -155,32 +152,31 @@ fn block_stmt_done(
 fn block_done(
     id: u32,
     o: Open,
-    body: InBody,
-    items: Items<BlockItem>,
+    body: BodyFrame,
+    items: BlockItems,
     span: Span,
 ) -> Result<Next, StepEnd>
-    ensures { (env : Env) → Gives env result (reader.block_done id env (view_open o) (view_in_body body) (parts.items_of (map shown_block_item items)) span) }
+    ensures { (env : Env) → Gives env result (reader.block_done id env (view_open o) (view_body_frame body) (parts.items_of (map shown_block_item items)) span) }
 {
     match body {
-        InBody::Definition(deep, node, done, specs, declarator) => {
+        BodyFrame::Definition(deep, node, done, specs, declarator) => {
             definition_done(id, o, deep, node, done, specs, declarator, items, span)
         }
-        InBody::Stmt(k) => block_stmt_done(id, o, k, items, span),
-        InBody::Never(never, _) => match never {},
+        BodyFrame::Stmt(k) => block_stmt_done(id, o, k, items, span),
     }
 }
 
 /// The `}` of a block.
-fn close_block(id: u32, k: Box<InStmt>, span: Span) -> Result<Next, StepEnd>
-    ensures { (env : Env) → Gives env result (reader.close_block id env (view_in_stmt k.value) span) }
+fn close_block(id: u32, k: StmtPlace, span: Span) -> Result<Next, StepEnd>
+    ensures { (env : Env) → Gives env result (reader.close_block id env (view_stmt_place k) span) }
 {
-    match Box::into_inner(k) {
-        InStmt::Block(o, items, body) => block_done(id, o, Box::into_inner(body), items, span),
-        InStmt::Then(_, c, k) => refuse((c, k)),
-        InStmt::Else(_, c, a, k) => refuse((c, a, k)),
-        InStmt::While(_, c, k) => refuse((c, k)),
-        InStmt::Do(_, k) => refuse(k),
-        InStmt::For(_, first, c, step, k) => refuse((first, c, step, k)),
+    match k.open() {
+        StmtFrame::Block(o, items, body) => block_done(id, o, body.open(), items, span),
+        StmtFrame::Then(_, c, k) => refuse((c, k)),
+        StmtFrame::Else(_, c, a, k) => refuse((c, a, k)),
+        StmtFrame::While(_, c, k) => refuse((c, k)),
+        StmtFrame::Do(_, k) => refuse(k),
+        StmtFrame::For(_, first, c, step, k) => refuse((first, c, step, k)),
     }
 }
 
@@ -188,14 +184,14 @@ fn close_block(id: u32, k: Box<InStmt>, span: Span) -> Result<Next, StepEnd>
 fn begin_declaration(
     alloc: Global,
     id: u32,
-    place: InDeclaration,
+    place: DeclarationFrame,
     y: Symbol,
     span: Span,
 ) -> Result<Next, StepEnd>
-    ensures { (env : Env) → Gives env result (begun.begin_specs id env (inside.of_declaration (view_in_declaration place)) (view_symbol y.entry) span) }
+    ensures { (env : Env) → Gives env result (begun.begin_specs id env (inside.of_declaration (view_declaration_frame place)) (view_symbol y.entry) span) }
 {
-    let inner = Box::new(alloc, place)?;
-    let outer = Box::new(alloc, InSpecs::Declaration(inner))?;
+    let inner = DeclarationPlace::new(alloc, place)?;
+    let outer = SpecsPlace::new(alloc, SpecsFrame::Declaration(inner))?;
     begin_specs(alloc, id, outer, y, span)
 }
 
@@ -203,37 +199,37 @@ fn begin_declaration(
 fn declaration_begin(
     alloc: Global,
     id: u32,
-    k: Box<InStmt>,
+    k: StmtPlace,
     y: Symbol,
     span: Span,
 ) -> Result<Next, StepEnd>
-    ensures { (env : Env) → Gives env result (reader.declaration_begin id env (view_in_stmt k.value) (view_symbol y.entry) span) }
+    ensures { (env : Env) → Gives env result (reader.declaration_begin id env (view_stmt_place k) (view_symbol y.entry) span) }
 {
-    match Box::into_inner(k) {
-        InStmt::Block(o, items, body) => {
-            begin_declaration(alloc, id, InDeclaration::Block(o, items, body), y, span)
+    match k.open() {
+        StmtFrame::Block(o, items, body) => {
+            begin_declaration(alloc, id, DeclarationFrame::Block(o, items, body), y, span)
         }
-        InStmt::Then(_, c, k) => refuse((c, k)),
-        InStmt::Else(_, c, a, k) => refuse((c, a, k)),
-        InStmt::While(_, c, k) => refuse((c, k)),
-        InStmt::Do(_, k) => refuse(k),
-        InStmt::For(_, first, c, step, k) => refuse((first, c, step, k)),
+        StmtFrame::Then(_, c, k) => refuse((c, k)),
+        StmtFrame::Else(_, c, a, k) => refuse((c, a, k)),
+        StmtFrame::While(_, c, k) => refuse((c, k)),
+        StmtFrame::Do(_, k) => refuse(k),
+        StmtFrame::For(_, first, c, step, k) => refuse((first, c, step, k)),
     }
 }
 
 /// `{` among statements.
-fn block_begin(alloc: Global, id: u32, k: Box<InStmt>, span: Span) -> Result<Next, StepEnd>
-    ensures { (env : Env) → Gives env result (inside.go_on id env (inside.stmt (inside.want_stmt (inside.in_block (parts.opens (inside.around_stmt (view_in_stmt k.value)).level span.start) [] (inside.of_stmt (view_in_stmt k.value)))))) }
+fn block_begin(alloc: Global, id: u32, k: StmtPlace, span: Span) -> Result<Next, StepEnd>
+    ensures { (env : Env) → Gives env result (inside.go_on id env (inside.stmt (inside.want_stmt (inside.in_block (parts.opens (inside.around_stmt (view_stmt_place k)).level span.start) [] (inside.of_stmt (view_stmt_place k)))))) }
 {
-    let o = Open::at(k.around().level, span.start)?;
-    let body = Box::new(alloc, InBody::Stmt(k))?;
-    let place = Box::new(alloc, InStmt::Block(o, Items::new(alloc), body))?;
+    let o = Open::at(k.get().around().level, span.start)?;
+    let body = BodyPlace::new(alloc, BodyFrame::Stmt(k))?;
+    let place = StmtPlace::new(alloc, StmtFrame::Block(o, BlockItems::new(alloc), body))?;
     Ok(Next::at_stmt(id, StmtMode::WantStmt(place)))
 }
 
 /// A semicolon alone.
-fn empty_stmt(id: u32, k: Box<InStmt>, span: Span) -> Result<Next, StepEnd>
-    ensures { (env : Env) → Gives env result (inside.go_on (suc id) env (inside.stmt (inside.after_stmt 1 (view_in_stmt k.value) (marked.ExprStmt (parts.mark span.start span.end id) marked.no_expr)))) }
+fn empty_stmt(id: u32, k: StmtPlace, span: Span) -> Result<Next, StepEnd>
+    ensures { (env : Env) → Gives env result (inside.go_on (suc id) env (inside.stmt (inside.after_stmt 1 (view_stmt_place k) (marked.ExprStmt (parts.mark span.start span.end id) marked.no_expr)))) }
 {
     let a = empty(mark(span.start, span.end, id));
     stmt_done(id, 1, k, a)
@@ -244,16 +240,16 @@ fn other_begin(
     alloc: Global,
     names: &Names,
     id: u32,
-    k: Box<InStmt>,
+    k: StmtPlace,
     y: Symbol,
     span: Span,
 ) -> Result<Next, StepEnd>
-    ensures { Gives names.now result (if begin.begins_specs names.now false (view_symbol y.entry) then reader.declaration_begin id names.now (view_in_stmt k.value) (view_symbol y.entry) span else begun.want id names.now (inside.in_stmt (parts.opens (inside.around_stmt (view_in_stmt k.value)).level span.start) inside.plain (view_in_stmt k.value)) (view_symbol y.entry) span) }
+    ensures { Gives names.now result (if begin.begins_specs names.now false (view_symbol y.entry) then reader.declaration_begin id names.now (view_stmt_place k) (view_symbol y.entry) span else begun.want id names.now (inside.in_stmt (parts.opens (inside.around_stmt (view_stmt_place k)).level span.start) inside.plain (view_stmt_place k)) (view_symbol y.entry) span) }
 {
     if begins_specs(names, false, y) {
         declaration_begin(alloc, id, k, y, span)
     } else {
-        let o = Open::at(k.around().level, span.start)?;
+        let o = Open::at(k.get().around().level, span.start)?;
         want_part(alloc, names, id, o, Part::Plain, k, y, span)
     }
 }
@@ -263,11 +259,11 @@ fn stmt_begin(
     alloc: Global,
     names: &Names,
     id: u32,
-    k: Box<InStmt>,
+    k: StmtPlace,
     y: Symbol,
     span: Span,
 ) -> Result<Next, StepEnd>
-    ensures { Gives names.now result (reader.stmt_begin id names.now (view_in_stmt k.value) (view_symbol y.entry) span) }
+    ensures { Gives names.now result (reader.stmt_begin id names.now (view_stmt_place k) (view_symbol y.entry) span) }
 {
     match y {
         Symbol::Head(head) => head_begin(alloc, id, k, head, span),
@@ -317,7 +313,7 @@ fn is_while_word(head: Head) -> bool
 }
 
 /// The items with a statement more.
-fn with_stmt(items: Items<BlockItem>, a: Stmt) -> Result<Items<BlockItem>, StepEnd>
+fn with_stmt(items: BlockItems, a: Stmt) -> Result<BlockItems, StepEnd>
     ensures ok { IfOk result (λ is. map shown_block_item is ≡ map shown_block_item items ++ parts.statement (shown_stmt a) ∷ []) }
     ensures err { IfErr result (λ e. e ≡ NoMemory) }
 {
@@ -331,17 +327,17 @@ fn else_begin(
     o: Open,
     c: Expr,
     a: Stmt,
-    k: Box<InStmt>,
+    k: StmtPlace,
 ) -> Result<Next, StepEnd>
-    ensures { (env : Env) → Gives env result (inside.go_on id env (inside.stmt (inside.want_stmt (inside.in_else (view_open o) (shown c) (shown_stmt a) (view_in_stmt k.value))))) }
+    ensures { (env : Env) → Gives env result (inside.go_on id env (inside.stmt (inside.want_stmt (inside.in_else (view_open o) (shown c) (shown_stmt a) (view_stmt_place k))))) }
 {
-    let place = Box::new(alloc, InStmt::Else(o, c, a, k))?;
+    let place = StmtPlace::new(alloc, StmtFrame::Else(o, c, a, k))?;
     Ok(Next::at_stmt(id, StmtMode::WantStmt(place)))
 }
 
 /// `while` behind the body of `do`.
-fn do_next(id: u32, o: Open, k: Box<InStmt>, a: Stmt, y: Symbol) -> Result<Next, StepEnd>
-    ensures { (env : Env) → Gives env result (if machine.is_while (view_symbol y.entry) then inside.go_on id env (inside.stmt (inside.want_paren (view_open o) (inside.of_do (shown_stmt a)) (view_in_stmt k.value))) else None) }
+fn do_next(id: u32, o: Open, k: StmtPlace, a: Stmt, y: Symbol) -> Result<Next, StepEnd>
+    ensures { (env : Env) → Gives env result (if machine.is_while (view_symbol y.entry) then inside.go_on id env (inside.stmt (inside.want_paren (view_open o) (inside.of_do (shown_stmt a)) (view_stmt_place k))) else None) }
 {
     if is_while(y) {
         Ok(Next::at_stmt(id, StmtMode::WantParen(o, Condition::Do(a), k)))
@@ -447,16 +443,16 @@ fn block_next(
     names: &Names,
     id: u32,
     o: Open,
-    items: Items<BlockItem>,
-    body: Box<InBody>,
+    items: BlockItems,
+    body: BodyPlace,
     a: Stmt,
     y: Symbol,
     span: Span,
 ) -> Result<Next, StepEnd>
-    ensures { Gives names.now result (reader.stmt_begin id names.now (inside.in_block (view_open o) (map shown_block_item items ++ parts.statement (shown_stmt a) ∷ []) (view_in_body body.value)) (view_symbol y.entry) span) }
+    ensures { Gives names.now result (reader.stmt_begin id names.now (inside.in_block (view_open o) (map shown_block_item items ++ parts.statement (shown_stmt a) ∷ []) (view_body_place body)) (view_symbol y.entry) span) }
 {
     let items = with_stmt(items, a)?;
-    let place = Box::new(alloc, InStmt::Block(o, items, body))?;
+    let place = StmtPlace::new(alloc, StmtFrame::Block(o, items, body))?;
     stmt_begin(alloc, names, id, place, y, span)
 }
 
@@ -467,18 +463,18 @@ fn stmt_next(
     id: u32,
     end: u32,
     deep: u32,
-    k: Box<InStmt>,
+    k: StmtPlace,
     a: Stmt,
     y: Symbol,
     span: Span,
 ) -> Result<Next, StepEnd>
-    ensures { Gives names.now result (reader.stmt_next id end names.now deep (view_in_stmt k.value) (shown_stmt a) (view_symbol y.entry) span) }
+    ensures { Gives names.now result (reader.stmt_next id end names.now deep (view_stmt_place k) (shown_stmt a) (view_symbol y.entry) span) }
 {
-    match Box::into_inner(k) {
-        InStmt::Block(o, items, body) => {
+    match k.open() {
+        StmtFrame::Block(o, items, body) => {
             block_next(alloc, names, id, o.with_part(deep), items, body, a, y, span)
         }
-        InStmt::Then(o, c, k) => {
+        StmtFrame::Then(o, c, k) => {
             if is_else(y) {
                 else_begin(alloc, id, o.with_part(deep), c, a, k)
             } else {
@@ -488,20 +484,20 @@ fn stmt_next(
                 )
             }
         }
-        InStmt::Else(o, c, b, k) => {
+        StmtFrame::Else(o, c, b, k) => {
             let whole = end_if_else(alloc, id, end, deep, o, c, b, a)?;
             stmt_next(
                 alloc, names, whole.id, end, whole.deep, k, whole.stmt, y, span,
             )
         }
-        InStmt::While(o, c, k) => {
+        StmtFrame::While(o, c, k) => {
             let whole = end_while(alloc, id, end, deep, o, c, a)?;
             stmt_next(
                 alloc, names, whole.id, end, whole.deep, k, whole.stmt, y, span,
             )
         }
-        InStmt::Do(o, k) => do_next(id, o.with_part(deep), k, a, y),
-        InStmt::For(o, first, c, step, k) => {
+        StmtFrame::Do(o, k) => do_next(id, o.with_part(deep), k, a, y),
+        StmtFrame::For(o, first, c, step, k) => {
             let whole = end_for(alloc, id, end, deep, o, first, c, step, a)?;
             stmt_next(
                 alloc, names, whole.id, end, whole.deep, k, whole.stmt, y, span,
@@ -517,10 +513,10 @@ fn paren_next(
     id: u32,
     o: Open,
     c: Condition,
-    k: Box<InStmt>,
+    k: StmtPlace,
     y: Symbol,
 ) -> Result<Next, StepEnd>
-    ensures { (env : Env) → Gives env result (reader.paren_next id env (view_open o) (view_condition c) (view_in_stmt k.value) (view_symbol y.entry)) }
+    ensures { (env : Env) → Gives env result (reader.paren_next id env (view_open o) (view_condition c) (view_stmt_place k) (view_symbol y.entry)) }
 {
     match y {
         Symbol::LeftParen => {
@@ -531,8 +527,8 @@ fn paren_next(
     }
 }
 
-fn for_next(id: u32, o: Open, k: Box<InStmt>, y: Symbol) -> Result<Next, StepEnd>
-    ensures { (env : Env) → Gives env result (reader.for_next id env (view_open o) (view_in_stmt k.value) (view_symbol y.entry)) }
+fn for_next(id: u32, o: Open, k: StmtPlace, y: Symbol) -> Result<Next, StepEnd>
+    ensures { (env : Env) → Gives env result (reader.for_next id env (view_open o) (view_stmt_place k) (view_symbol y.entry)) }
 {
     match y {
         Symbol::LeftParen => Ok(Next::at_stmt(id, StmtMode::ForOpened(o, k))),
@@ -546,14 +542,14 @@ fn first_begin(
     names: &Names,
     id: u32,
     o: Open,
-    k: Box<InStmt>,
+    k: StmtPlace,
     y: Symbol,
     span: Span,
 ) -> Result<Next, StepEnd>
-    ensures { Gives names.now result (if begin.begins_specs names.now false (view_symbol y.entry) then begun.begin_specs id names.now (inside.of_declaration (inside.of_for (view_open o) (view_in_stmt k.value))) (view_symbol y.entry) span else begun.want id names.now (inside.in_stmt (view_open o) inside.for_first (view_in_stmt k.value)) (view_symbol y.entry) span) }
+    ensures { Gives names.now result (if begin.begins_specs names.now false (view_symbol y.entry) then begun.begin_specs id names.now (inside.of_declaration (inside.of_for (view_open o) (view_stmt_place k))) (view_symbol y.entry) span else begun.want id names.now (inside.in_stmt (view_open o) inside.for_first (view_stmt_place k)) (view_symbol y.entry) span) }
 {
     if begins_specs(names, false, y) {
-        begin_declaration(alloc, id, InDeclaration::For(o, k), y, span)
+        begin_declaration(alloc, id, DeclarationFrame::For(o, k), y, span)
     } else {
         want_part(alloc, names, id, o, Part::ForFirst, k, y, span)
     }
@@ -564,11 +560,11 @@ fn for_begin(
     names: &Names,
     id: u32,
     o: Open,
-    k: Box<InStmt>,
+    k: StmtPlace,
     y: Symbol,
     span: Span,
 ) -> Result<Next, StepEnd>
-    ensures { Gives names.now result (reader.for_begin id names.now (view_open o) (view_in_stmt k.value) (view_symbol y.entry) span) }
+    ensures { Gives names.now result (reader.for_begin id names.now (view_open o) (view_stmt_place k) (view_symbol y.entry) span) }
 {
     match y {
         Symbol::Semicolon => {
@@ -585,11 +581,11 @@ fn condition_begin(
     id: u32,
     o: Open,
     first: ForFirst,
-    k: Box<InStmt>,
+    k: StmtPlace,
     y: Symbol,
     span: Span,
 ) -> Result<Next, StepEnd>
-    ensures { Gives names.now result (reader.condition_begin id names.now (view_open o) (shown_first first) (view_in_stmt k.value) (view_symbol y.entry) span) }
+    ensures { Gives names.now result (reader.condition_begin id names.now (view_open o) (shown_first first) (view_stmt_place k) (view_symbol y.entry) span) }
 {
     match y {
         Symbol::Semicolon => Ok(Next::at_stmt(id, StmtMode::WantStep(o, first, no_expr(), k))),
@@ -604,11 +600,11 @@ fn for_body(
     o: Open,
     first: ForFirst,
     c: Option<Expr>,
-    k: Box<InStmt>,
+    k: StmtPlace,
 ) -> Result<Next, StepEnd>
-    ensures { (env : Env) → Gives env result (inside.go_on id env (inside.stmt (inside.want_stmt (inside.in_for (view_open o) (shown_first first) (shown_maybe c) marked.no_expr (view_in_stmt k.value))))) }
+    ensures { (env : Env) → Gives env result (inside.go_on id env (inside.stmt (inside.want_stmt (inside.in_for (view_open o) (shown_first first) (shown_maybe c) marked.no_expr (view_stmt_place k))))) }
 {
-    let place = Box::new(alloc, InStmt::For(o, first, c, no_expr(), k))?;
+    let place = StmtPlace::new(alloc, StmtFrame::For(o, first, c, no_expr(), k))?;
     Ok(Next::at_stmt(id, StmtMode::WantStmt(place)))
 }
 
@@ -619,11 +615,11 @@ fn step_begin(
     o: Open,
     first: ForFirst,
     c: Option<Expr>,
-    k: Box<InStmt>,
+    k: StmtPlace,
     y: Symbol,
     span: Span,
 ) -> Result<Next, StepEnd>
-    ensures { Gives names.now result (reader.step_begin id names.now (view_open o) (shown_first first) (shown_maybe c) (view_in_stmt k.value) (view_symbol y.entry) span) }
+    ensures { Gives names.now result (reader.step_begin id names.now (view_open o) (shown_first first) (shown_maybe c) (view_stmt_place k) (view_symbol y.entry) span) }
 {
     match y {
         Symbol::RightParen => for_body(alloc, id, o, first, c, k),
@@ -650,10 +646,10 @@ fn semi_done(
     id: u32,
     o: Open,
     a: Unended,
-    k: Box<InStmt>,
+    k: StmtPlace,
     span: Span,
 ) -> Result<Next, StepEnd>
-    ensures { (env : Env) → Gives env result (inside.go_on (suc id) env (inside.stmt (inside.after_stmt (parts.whole (view_open o) 0) (view_in_stmt k.value) (reader.ended (parts.mark o.from span.end id) (view_unended a))))) }
+    ensures { (env : Env) → Gives env result (inside.go_on (suc id) env (inside.stmt (inside.after_stmt (parts.whole (view_open o) 0) (view_stmt_place k) (reader.ended (parts.mark o.from span.end id) (view_unended a))))) }
 {
     let deep = o.whole(0)?;
     let a = ended(alloc, mark(o.from, span.end, id), a)?;
@@ -665,11 +661,11 @@ fn semi_next(
     id: u32,
     o: Open,
     a: Unended,
-    k: Box<InStmt>,
+    k: StmtPlace,
     y: Symbol,
     span: Span,
 ) -> Result<Next, StepEnd>
-    ensures { (env : Env) → Gives env result (reader.semi_next id env (view_open o) (view_unended a) (view_in_stmt k.value) (view_symbol y.entry) span) }
+    ensures { (env : Env) → Gives env result (reader.semi_next id env (view_open o) (view_unended a) (view_stmt_place k) (view_symbol y.entry) span) }
 {
     match y {
         Symbol::Semicolon => semi_done(alloc, id, o, a, k, span),
@@ -678,8 +674,8 @@ fn semi_next(
 }
 
 /// `return;`
-fn return_done(id: u32, o: Open, k: Box<InStmt>, span: Span) -> Result<Next, StepEnd>
-    ensures { (env : Env) → Gives env result (inside.go_on (suc id) env (inside.stmt (inside.after_stmt (parts.whole (view_open o) 0) (view_in_stmt k.value) (marked.Return (parts.mark o.from span.end id) marked.no_expr)))) }
+fn return_done(id: u32, o: Open, k: StmtPlace, span: Span) -> Result<Next, StepEnd>
+    ensures { (env : Env) → Gives env result (inside.go_on (suc id) env (inside.stmt (inside.after_stmt (parts.whole (view_open o) 0) (view_stmt_place k) (marked.Return (parts.mark o.from span.end id) marked.no_expr)))) }
 {
     let deep = o.whole(0)?;
     let a = return_(mark(o.from, span.end, id), no_expr());
@@ -691,11 +687,11 @@ fn return_next(
     names: &Names,
     id: u32,
     o: Open,
-    k: Box<InStmt>,
+    k: StmtPlace,
     y: Symbol,
     span: Span,
 ) -> Result<Next, StepEnd>
-    ensures { Gives names.now result (reader.return_next id names.now (view_open o) (view_in_stmt k.value) (view_symbol y.entry) span) }
+    ensures { Gives names.now result (reader.return_next id names.now (view_open o) (view_stmt_place k) (view_symbol y.entry) span) }
 {
     match y {
         Symbol::Semicolon => return_done(id, o, k, span),

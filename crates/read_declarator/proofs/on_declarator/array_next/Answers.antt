@@ -1,11 +1,11 @@
 use Rattle.std.proofs.Common.{sym}
 use Rattle.c_stack.specs.Shown.{shown_declarator}
-use Rattle.c_stack.specs.Views.{view_in_declarator, view_open}
+use Rattle.c_stack.specs.Views.{view_declarator_place, view_open}
 use Rattle.read_declarator.proofs.Rest.{array_rest}
-use Rattle.read_begin.proofs.Rest.{gives}
+use Rattle.c_stack.proofs.Rest.{gives}
 use Rattle.read_declarator.proofs.on_declarator.array_next.Goals as goal
 
 pub returns-in_default : goal.returns-in_default
 returns-in_default c =
-    let e = array_rest c.args.id c.args.names.now (view_open c.args.o) (shown_declarator c.args.d) (view_in_declarator c.args.k.value) c.args.y c.args.span c.in_default.not-RightBracket in
+    let e = array_rest c.args.id c.args.names.now (view_open c.args.o) (shown_declarator c.args.d) (view_declarator_place c.args.k) c.args.y c.args.span c.in_default.not-RightBracket in
     gives c.args.names.now c.length_begin.result _ _ (sym e) c.length_begin.ensures

@@ -1,11 +1,10 @@
 use Rattle.std.proofs.Common.{ap}
 use Rattle.c_reader.specs.MarkedDeclarators as reader
 use Rattle.c_stack.specs.Seen.{view_symbol}
-use Rattle.c_stack.specs.Views.{view_in_declarator}
-use Rattle.read_begin.proofs.Rest.{gives}
+use Rattle.c_stack.proofs.Rest.{gives}
 use Rattle.read_declarator.proofs.on_declarator.group_begin.Goals as goal
 
 pub returns : goal.returns
 returns c = λ env.
-    let e = ap (λ k. reader.declarator_begin c.args.id c.args.end env (view_in_declarator k) (view_symbol c.args.y) c.args.span) c.in_ok-place.ensures.ok in
+    let e = ap (λ k. reader.declarator_begin c.args.id c.args.end env k (view_symbol c.args.y) c.args.span) c.in_ok-place.ensures in
     gives env c.declarator_begin.result _ _ e (c.declarator_begin.ensures env)

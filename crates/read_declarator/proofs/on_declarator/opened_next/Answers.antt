@@ -1,10 +1,10 @@
 use Rattle.std.proofs.Common.{sym}
-use Rattle.c_stack.specs.Views.{view_in_declarator, view_open}
+use Rattle.c_stack.specs.Views.{view_declarator_place, view_open}
 use Rattle.read_declarator.proofs.Rest.{opened_rest}
-use Rattle.read_begin.proofs.Rest.{gives}
+use Rattle.c_stack.proofs.Rest.{gives}
 use Rattle.read_declarator.proofs.on_declarator.opened_next.Goals as goal
 
 pub returns-in_default : goal.returns-in_default
 returns-in_default c =
-    let e = opened_rest c.args.id c.args.end c.args.names.now (view_open c.args.o) (view_in_declarator c.args.k.value) c.args.y c.args.span c.in_default.not-RightParen in
+    let e = opened_rest c.args.id c.args.end c.args.names.now (view_open c.args.o) (view_declarator_place c.args.k) c.args.y c.args.span c.in_default.not-RightParen in
     gives c.args.names.now c.opened_more.result _ _ (sym e) c.opened_more.ensures

@@ -1,7 +1,7 @@
 use Rattle.std.proofs.Common.{sym}
 use Rattle.c_stack.specs.Views.{view_in_fields}
 use Rattle.read_specifier.proofs.Rest.{field_rest}
-use Rattle.read_begin.proofs.Rest.{gives}
+use Rattle.c_stack.proofs.Rest.{gives}
 use Rattle.read_specifier.proofs.on_specifier.field_begin.Goals as goal
 
 pub returns-in_default : goal.returns-in_default

@@ -1,5 +1,5 @@
 use Rattle.c_stack.specs.Shown.{shown_field}
-use Rattle.read_specifier.proofs.Empty.{empty_seen}
+use Rattle.c_stack.proofs.Empty.{empty_seen}
 use Rattle.read_specifier.proofs.on_specifier.lacks_fields.Goals as goal
 
 pub returns : goal.returns

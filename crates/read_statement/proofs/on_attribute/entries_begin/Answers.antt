@@ -1,7 +1,7 @@
 use Rattle.std.proofs.Common.{sym}
 use Rattle.c_stack.specs.Views.{view_in_attribute, view_open}
 use Rattle.read_statement.proofs.Rest.{entries_rest}
-use Rattle.read_begin.proofs.Rest.{gives}
+use Rattle.c_stack.proofs.Rest.{gives}
 use Rattle.read_statement.proofs.on_attribute.entries_begin.Goals as goal
 
 pub returns-in_default : goal.returns-in_default

@@ -2,7 +2,7 @@ use Rattle.std.proofs.Common.{map, sym}
 use Rattle.c_stack.specs.Shown.{shown_entry}
 use Rattle.c_stack.specs.Views.{view_in_attribute, view_open}
 use Rattle.read_statement.proofs.Rest.{entry_rest}
-use Rattle.read_begin.proofs.Rest.{gives}
+use Rattle.c_stack.proofs.Rest.{gives}
 use Rattle.read_statement.proofs.on_attribute.entry_next.Goals as goal
 
 pub returns-in_default : goal.returns-in_default

@@ -3,7 +3,7 @@ use Rattle.c_reader.specs.MarkedSpecs as reader
 use Rattle.c_stack.specs.Seen.{view_symbol}
 use Rattle.c_stack.specs.Shown.{shown_entry}
 use Rattle.c_stack.specs.Views.{view_in_attribute, view_open}
-use Rattle.read_begin.proofs.Rest.{gives}
+use Rattle.c_stack.proofs.Rest.{gives}
 use Rattle.read_statement.proofs.on_attribute.first_entry.Goals as goal
 
 pub returns : goal.returns

@@ -1,11 +1,11 @@
 use Rattle.std.proofs.Common.{sym}
 use Rattle.c_stack.specs.Shown.{shown_first}
-use Rattle.c_stack.specs.Views.{view_in_stmt, view_open}
+use Rattle.c_stack.specs.Views.{view_open, view_stmt_place}
 use Rattle.read_statement.proofs.Rest.{condition_rest}
-use Rattle.read_begin.proofs.Rest.{gives}
+use Rattle.c_stack.proofs.Rest.{gives}
 use Rattle.read_statement.proofs.on_statement.condition_begin.Goals as goal
 
 pub returns-in_default : goal.returns-in_default
 returns-in_default c =
-    let e = condition_rest c.args.id c.args.names.now (view_open c.args.o) (shown_first c.args.first) (view_in_stmt c.args.k.value) c.args.y c.args.span c.in_default.not-Semicolon in
+    let e = condition_rest c.args.id c.args.names.now (view_open c.args.o) (shown_first c.args.first) (view_stmt_place c.args.k) c.args.y c.args.span c.in_default.not-Semicolon in
     gives c.args.names.now c.want_part.result _ _ (sym e) c.want_part.ensures
