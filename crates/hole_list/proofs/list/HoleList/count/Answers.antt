@@ -1,7 +1,7 @@
 use Rattle.std.proofs.Common.{length, sym, ap, ◌∙◌, arith}
 use Rattle.hole_list.specs.Units.{run_count}
 use Rattle.hole_list.proofs.Gaps.{count_is, count_bound, length_units}
-use Rattle.hole_list.proofs.list.Holes.count.Goals as goal
+use Rattle.hole_list.proofs.list.HoleList.count.Goals as goal
 
 pub overflow_cast-result : goal.overflow_cast-result
 overflow_cast-result c =

@@ -7,7 +7,7 @@ use Rattle.hole_list.specs.declared.gap.Hole.{Hole}
 use Rattle.hole_list.proofs.Gaps.{all_within, count_bound}
 use Rattle.hole_list.proofs.Changes.{hole}
 use Rattle.hole_list.proofs.Calls.{units_are, given_up, given_down, given_joined, given_new, length-insert}
-use Rattle.hole_list.proofs.list.Holes.give.Goals as goal
+use Rattle.hole_list.proofs.list.HoleList.give.Goals as goal
 
 -- what the search found, said of the list itself
 reached : (items row : List Hole) (at s : ℕ) → row ≡ items → at ≤ length row → ((k : ℕ) (d : Hole) → k < at → (get_or row k d).start + (get_or row k d).len < s) → (at < length row → (d : Hole) → s ≤ (get_or row at d).start + (get_or row at d).len) → (at ≤ length items) × ((k : ℕ) (d : Hole) → k < at → (get_or items k d).start + (get_or items k d).len < s) × (at < length items → (d : Hole) → s ≤ (get_or items at d).start + (get_or items at d).len)

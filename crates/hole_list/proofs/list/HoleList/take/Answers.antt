@@ -4,8 +4,8 @@ use Rattle.hole_list.specs.Shape.{units_from, Apart}
 use Rattle.hole_list.specs.declared.gap.Hole.{Hole}
 use Rattle.hole_list.proofs.Gaps.{no_run, all_within}
 use Rattle.hole_list.proofs.Calls.{units_are, taken_lowest, taken_whole, taken_part}
-use Rattle.hole_list.proofs.list.Holes.take.Goals as goal
-use Rattle.hole_list.proofs.list.Holes.take.Goals.{then-hole-need, else-hole-need}
+use Rattle.hole_list.proofs.list.HoleList.take.Goals as goal
+use Rattle.hole_list.proofs.list.HoleList.take.Goals.{then-hole-need, else-hole-need}
 
 -- what the search found, said of the list itself
 found : (items row : List Hole) (at n : ℕ) (h : Hole) → row ≡ items → h ≡ get_or items at h → (at < length row) × ((d : Hole) → n ≤ (get_or row at d).len) → ((k : ℕ) (d : Hole) → k < at → (get_or row k d).len < n) → (at < length items) × (n ≤ h.len) × ((k : ℕ) (d : Hole) → k < at → (get_or items k d).len < n)
