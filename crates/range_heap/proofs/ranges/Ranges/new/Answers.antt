@@ -31,7 +31,7 @@ loop-token-preserved c =
     let size : ℕ = c.args.size in
     let old : List Kept = c.loop-token.heaps.items in
     let first : c.in_ok-heap.heap.first ≡ range_first c.args.size c.loop-token.token =
-        c.in_ok-heap.ensures.first ∙ ap (λ (n : ℕ). 16777216 + n * c.from-in-loop-token.result) c.from.ensures ∙ ap (λ (n : ℕ). 16777216 + c.loop-token.token * n) c.from-in-loop-token.ensures in (
+    c.in_ok-heap.ensures.first ∙ ap (λ (n : ℕ). 16777216 + n * c.from-in-loop-token.result) c.from.ensures ∙ ap (λ (n : ℕ). 16777216 + c.loop-token.token * n) c.from-in-loop-token.ensures in (
       omega (arith, ap (λ (l : List Kept). length l) e, length-append c.loop-token.heaps.items (c.in_ok-heap.heap ∷ []), i.0),
       omega (arith, c.push_reserved.ensures.capacity, i.1),
       λ t d lt. subst (λ (l : List Kept). (get_or l t d).first ≡ range_first c.args.size t) (sym e) (all_more (λ n k. k.first ≡ range_first c.args.size n) c.loop-token.heaps.items c.in_ok-heap.heap c.loop-token.token i.0 i.2 first t d lt),
