@@ -1,4 +1,4 @@
-//! The holes of a range.
+//! The holes of a range as a list sorted by place: slow, and short to read. It is here to be compared with `Holes`.
 
 ghost use Rattle.std.specs.Prelude.{◌≡◌, ◌≢◌, ℕ, ◌+◌, ◌-◌, ◌*◌, ◌/◌, ◌%◌, ◌<◌, ◌≤◌, Bool, true, false, length, replicate, slice_index_or, IfOk, IfSome, IfNone};
 ghost use Rattle.hole_list.specs.Units.{IsRun, IsLowestRun, Marked, run_count};
@@ -11,12 +11,12 @@ use tok_base::NoMemory;
 
 /// The free storage of a range of 16 to 1,048,576 bytes.
 #[derive(Drop)]
-pub struct Holes {
+pub struct HoleList {
     units: u32,
     list: Vec<Hole>,
 }
 
-impl Model for Holes {
+impl Model for HoleList {
     ghost use Rattle.std.specs.Prelude.{◌≡◌, ◌*◌, ◌≤◌, List, Bool, vec_capacity};
     ghost use Rattle.hole_list.specs.Shape.{units_from, Apart};
 
@@ -27,9 +27,9 @@ impl Model for Holes {
     ghost invariant = { λ h. (h.units ≤ 65536) × (h.units ≤ 2 * vec_capacity h.list) × Apart 0 h.units h.list.items };
 }
 
-impl Holes {
+impl HoleList {
     /// Storage of `size` bytes, all of it free: one hole.
-    pub fn new(alloc: Global, size: u32) -> Result<Holes, NoMemory>
+    pub fn new(alloc: Global, size: u32) -> Result<HoleList, NoMemory>
         requires multiple { size % 16 ≡ 0 }
         requires least { 16 ≤ size }
         requires most { size ≤ 1048576 }
@@ -41,7 +41,7 @@ impl Holes {
             start: 0,
             len: units,
         });
-        Ok(Holes { units, list })
+        Ok(HoleList { units, list })
     }
 
     /// Takes `len` bytes from the lowest place that fits. None exactly where no hole has them.

@@ -59,6 +59,20 @@ legal_from-snoc r done (x ∷ xs) e l m = (l.0, legal_from-snoc r (done ++ x ∷
 pub legal-snoc : (r : Region) (h : List HeapCall) (e : HeapCall) → Legal r h → MayFollow r h e.what → Legal r (h ++ e ∷ [])
 legal-snoc r h e l m = legal_from-snoc r [] h e l m
 
+legal_from-front : (r : Region) (done h more : List HeapCall) → LegalFrom r done (h ++ more) → LegalFrom r done h
+legal_from-front r done [] more l = tt
+legal_from-front r done (x ∷ xs) more l = (l.0, legal_from-front r (done ++ x ∷ []) xs more l.1)
+
+pub legal-front : (r : Region) (h more : List HeapCall) → Legal r (h ++ more) → Legal r h
+legal-front r h more l = legal_from-front r [] h more l
+
+legal_from-last : (r : Region) (done h : List HeapCall) (e : HeapCall) → LegalFrom r done (h ++ e ∷ []) → MayFollow r (done ++ h) e.what
+legal_from-last r done [] e l = subst (λ (d : List HeapCall). MayFollow r d e.what) (sym (append-nil done)) l.0
+legal_from-last r done (x ∷ xs) e l = subst (λ (d : List HeapCall). MayFollow r d e.what) (append_assoc done (x ∷ []) xs) (legal_from-last r (done ++ x ∷ []) xs e l.1)
+
+pub legal-last : (r : Region) (h : List HeapCall) (e : HeapCall) → Legal r (h ++ e ∷ []) → MayFollow r h e.what
+legal-last r h e l = legal_from-last r [] h e l
+
 -- the live blocks of a legal history lie in the range at multiples of 16, and do not meet
 
 abbrev pub AllWithin : Region → List Block → Type 0

@@ -2,7 +2,7 @@
 use Rattle.std.proofs.Common.{◌≡◌, ⊎_elim, ℕ, ◌<◌, ◌≤◌, Bool, true, false, List, [], ◌∷◌, ◌++◌, length, get_or, set, map, Option, Some, None, is_some, refl, sym, ap, ◌∙◌, subst, arith}
 use Rattle.std.proofs.lemmas.Bool.{cases_lt}
 use Rattle.std.proofs.lemmas.List.{get_or-map, map-set, length-map, set-get_or, length-set}
-use Rattle.std.specs.Prelude.{Result, Ok, Err, OnErr}
+use Rattle.std.specs.Prelude.{Result, Ok, Err, OnErr, MatchOption}
 use Rattle.range_heap.specs.declared.call.HeapCall.{HeapCall}
 use Rattle.range_heap.specs.declared.call.HeapEvent.{HeapEvent}
 use Rattle.range_heap.specs.declared.call.HeapEvent.TheVariants.{Grant, Refuse, Release}
@@ -12,7 +12,7 @@ use Rattle.range_heap.specs.Blocks.{live_blocks, live_at, live}
 use Rattle.range_heap.specs.History.{call_of, Legal}
 use Rattle.range_heap.specs.Seen.{Kept, AllHeaps}
 use Rattle.range_heap.specs.Ranges.{range_at, InRange, AllLegal, Standing}
-use Rattle.range_heap.specs.Steps.{Granted, Released, Roomier, Changed, HasLive, histories, noted, Answers, Made, MadeAll}
+use Rattle.range_heap.specs.Steps.{Granted, Released, Roomier, Changed, HasLive, histories, noted, Made, MadeAll}
 use Rattle.range_heap.proofs.Clear.{rounded_some, some_of}
 use Rattle.range_heap.proofs.Histories.{legal_good, within_at}
 use Rattle.range_heap.proofs.Apart.{one_range, none_kept}
@@ -44,19 +44,19 @@ reserved token old new outside inside = ⊎_elim
     (λ (le : length old.heaps ≤ token). let e = outside le in (ap histories e, ap (λ a. a.size) e, ap (λ a. length a.heaps) e))
     (cases_lt token (length old.heaps))
 
-answer_of : (who token size : ℕ) (answer : Option ℕ) (old new : AllHeaps) → token < length old.heaps → Changed token (Granted who size answer) old new → (e : HeapEvent) × Answers size e × (histories new ≡ noted (histories old) token (call_of who e))
+answer_of : (who token size : ℕ) (answer : Option ℕ) (old new : AllHeaps) → token < length old.heaps → Changed token (Granted who size answer) old new → MatchOption answer (histories new ≡ noted (histories old) token (call_of who (Refuse size))) (λ p. histories new ≡ noted (histories old) token (call_of who (Grant size p)))
 answer_of who token size None old new lt c =
     let w = c.way none_kept in
-    (Refuse size, refl, set_history old new token c.after c.heaps ∙ ap (λ h. set (histories old) token h) (w.entry ∙ ap (λ h. h ++ call_of who (Refuse size) ∷ []) (sym (get_history old.heaps token none_kept lt))))
+    (set_history old new token c.after c.heaps ∙ ap (λ h. set (histories old) token h) (w.entry ∙ ap (λ h. h ++ call_of who (Refuse size) ∷ []) (sym (get_history old.heaps token none_kept lt))))
 answer_of who token size (Some p) old new lt c =
     let w = c.way none_kept in
-    (Grant size p, refl, set_history old new token c.after c.heaps ∙ ap (λ h. set (histories old) token h) (w.entry ∙ ap (λ h. h ++ call_of who (Grant size p) ∷ []) (sym (get_history old.heaps token none_kept lt))))
+    (set_history old new token c.after c.heaps ∙ ap (λ h. set (histories old) token h) (w.entry ∙ ap (λ h. h ++ call_of who (Grant size p) ∷ []) (sym (get_history old.heaps token none_kept lt))))
 
-pub made_ask : (who token size : ℕ) (answer : Option ℕ) (old mid new : AllHeaps) → histories mid ≡ histories old → (length mid.heaps ≤ token → new ≡ mid) → (token < length mid.heaps → Changed token (Granted who size answer) mid new) → Made (Ask who token size) (histories old) (histories new)
+pub made_ask : (who token size : ℕ) (answer : Option ℕ) (old mid new : AllHeaps) → histories mid ≡ histories old → (length mid.heaps ≤ token → (answer ≡ None) × (new ≡ mid)) → (token < length mid.heaps → Changed token (Granted who size answer) mid new) → Made (Ask who token size) answer (histories old) (histories new)
 made_ask who token size answer old mid new same outside inside =
     let long = length-map mid.heaps history_of in
-    subst (λ hs. Made (Ask who token size) hs (histories new)) same (
-      λ le. ap histories (outside (omega (arith, le, long))),
+    subst (λ hs. Made (Ask who token size) answer hs (histories new)) same (
+      λ le. let o = outside (omega (arith, le, long)) in (o.0, ap histories o.1),
       λ lt. let within : token < length mid.heaps = omega (arith, lt, long) in answer_of who token size answer mid new within (inside within),
     )
 
@@ -77,16 +77,17 @@ same_range size t u place i j = ⊎_elim
 true_not : (b : Bool) {P : Type 0} → b ≡ true → b ≡ false → P
 true_not b e f = absurd (cc)
 
-pub made_nothing : (who place size : ℕ) (hs : List (List HeapCall)) → ((t : ℕ) → t < length hs → live place (get_or hs t []) ≡ true → ⊥) → Made (GiveBack who place) hs hs
-made_nothing who place size hs none = (λ t lt alive. absurd (none t lt alive), λ _. refl)
+pub made_nothing : (who place size : ℕ) (hs : List (List HeapCall)) → ((t : ℕ) → t < length hs → live place (get_or hs t []) ≡ true → ⊥) → Made (GiveBack who place) None hs hs
+made_nothing who place size hs none = (refl, λ t lt alive. absurd (none t lt alive), λ _. refl)
 
-pub made_back : (who place size t : ℕ) (old mid new : AllHeaps) → histories mid ≡ histories old → AllLegal size (histories mid) → t < length mid.heaps → live place (get_or (histories mid) t []) ≡ true → Changed t (Released who place) mid new → Made (GiveBack who place) (histories old) (histories new)
+pub made_back : (who place size t : ℕ) (old mid new : AllHeaps) → histories mid ≡ histories old → AllLegal size (histories mid) → t < length mid.heaps → live place (get_or (histories mid) t []) ≡ true → Changed t (Released who place) mid new → Made (GiveBack who place) None (histories old) (histories new)
 made_back who place size t old mid new same legal lt alive c =
     let long = length-map mid.heaps history_of in
     let within : t < length (histories mid) = omega (arith, lt, long) in
     let w = c.way none_kept in
     let here : histories new ≡ noted (histories mid) t (call_of who (Release place)) = set_history mid new t c.after c.heaps ∙ ap (λ h. set (histories mid) t h) (w.entry ∙ ap (λ h. h ++ call_of who (Release place) ∷ []) (sym (get_history mid.heaps t none_kept lt))) in
-    subst (λ hs. Made (GiveBack who place) hs (histories new)) same (
+    subst (λ hs. Made (GiveBack who place) None hs (histories new)) same (
+      refl,
       λ u l a.
           let e : u ≡ t = same_range size t u place (live_inside size (histories mid) legal place t within alive) (live_inside size (histories mid) legal place u l a) in
           here ∙ ap (λ v. noted (histories mid) v (call_of who (Release place))) (sym e),
@@ -100,9 +101,9 @@ none_else size hs l place t i none u lt alive =
     let here : live place (get_or hs t []) ≡ true = subst (λ v. live place (get_or hs v []) ≡ true) e alive in
     true_not (live place (get_or hs t [])) here (ap is_some none)
 
-pub made_more : (cs : List RangeCall) (c : RangeCall) (old mid new : List (List HeapCall)) → MadeAll cs old mid → Made c mid new → MadeAll (cs ++ c ∷ []) old new
-made_more [] c old mid new m n = (new, subst (λ hs. Made c hs new) m n, refl)
-made_more (x ∷ xs) c old mid new m n = (m.0, m.1, made_more xs c m.0 mid new m.2 n)
+pub made_more : (cs : List RangeCall) (c : RangeCall) (answer : Option ℕ) (old mid new : List (List HeapCall)) → MadeAll cs old mid → Made c answer mid new → MadeAll (cs ++ c ∷ []) old new
+made_more [] c answer old mid new m n = (answer, new, subst (λ hs. Made c answer hs new) m n, refl)
+made_more (x ∷ xs) c answer old mid new m n = (m.0, m.1, m.2, made_more xs c answer m.1 mid new m.3 n)
 
 pub on_err : {T E : Type 0} {P : Type 0} (r : Result T E) → P → OnErr r P
 on_err (Ok x) p = tt

@@ -1,8 +1,8 @@
 -- What follows from the definitions alone.
-use Rattle.std.specs.Prelude.{◌≡◌, ◌≢◌, ℕ, ◌<◌, ◌≤◌, ◌%◌, List, length, slice_index_or}
+use Rattle.std.specs.Prelude.{◌≡◌, ◌≢◌, ℕ, ◌<◌, ◌≤◌, ◌%◌, List, [], ◌∷◌, ◌++◌, length, slice_index_or}
 use Rattle.range_heap.specs.declared.call.HeapCall.{HeapCall}
 use Rattle.range_heap.specs.Blocks.{rounded, Block, live_blocks}
-use Rattle.range_heap.specs.History.{Region, Legal}
+use Rattle.range_heap.specs.History.{Region, MayFollow, Legal}
 use Rattle.range_heap.specs.Ranges.{AllLegal, StayApart}
 
 -- `rounded` is the least positive multiple of 16 that is not below the size
@@ -19,3 +19,10 @@ StartsDiffer = (r : Region) (h : List HeapCall) → Legal r h → (i j : ℕ) (d
 -- histories that are legal in their ranges stay apart
 abbrev pub RangesApart : Type 0
 RangesApart = (size : ℕ) (hs : List (List HeapCall)) → AllLegal size hs → StayApart hs
+
+-- how legal histories grow: an entry that may follow one makes a longer one, the last entry of one may follow those
+-- in front of it, and each front of one is legal
+pub record HistoriesGrow : Type 0 where
+  pub entry : (r : Region) (h : List HeapCall) (e : HeapCall) → Legal r h → MayFollow r h e.what → Legal r (h ++ e ∷ [])
+  pub last : (r : Region) (h : List HeapCall) (e : HeapCall) → Legal r (h ++ e ∷ []) → MayFollow r h e.what
+  pub front : (r : Region) (h more : List HeapCall) → Legal r (h ++ more) → Legal r h

@@ -1,5 +1,5 @@
 -- What a call on one of the ranges changes.
-use Rattle.std.specs.Prelude.{map, ◌≡◌, ℕ, ◌+◌, ◌<◌, ◌≤◌, true, false, List, [], ◌∷◌, ◌++◌, length, slice_index_or, slice_set, Option, IfSome, MatchOption}
+use Rattle.std.specs.Prelude.{map, ◌≡◌, ℕ, ◌+◌, ◌<◌, ◌≤◌, true, false, List, [], ◌∷◌, ◌++◌, length, take, slice_index_or, slice_set, Option, None, IfSome, MatchOption}
 use Rattle.range_heap.specs.declared.call.HeapCall.{HeapCall}
 use Rattle.range_heap.specs.declared.call.HeapEvent.{HeapEvent}
 use Rattle.range_heap.specs.declared.call.HeapEvent.TheVariants.{Grant, Refuse, Release}
@@ -50,19 +50,17 @@ histories all = map (λ (k : Kept). k.history) all.heaps
 abbrev pub noted : List (List HeapCall) → ℕ → HeapCall → List (List HeapCall)
 noted hs t e = slice_set hs t (slice_index_or hs t [] ++ e ∷ [])
 
--- an event that answers a request for this many bytes
-abbrev pub Answers : ℕ → HeapEvent → Type 0
-Answers size (Grant s place) = s ≡ size
-Answers size (Refuse s) = s ≡ size
-Answers size (Release place) = ⊥
-
--- what one call notes: a grant or a refusal where there is such a range, a release where a live block
--- begins at the place, and else nothing
-abbrev pub Made : RangeCall → List (List HeapCall) → List (List HeapCall) → Type 0
-Made (Ask who token size) old new = (length old ≤ token → new ≡ old) × (token < length old → (e : HeapEvent) × Answers size e × (new ≡ noted old token (call_of who e)))
-Made (GiveBack who place) old new = ((t : ℕ) → t < length old → live place (slice_index_or old t []) ≡ true → new ≡ noted old t (call_of who (Release place))) × (((t : ℕ) → t < length old → live place (slice_index_or old t []) ≡ false) → new ≡ old)
+-- what one call answers and notes: a grant with its place or a refusal where there is such a range, a release
+-- where a live block begins at the place, and else nothing
+abbrev pub Made : RangeCall → Option ℕ → List (List HeapCall) → List (List HeapCall) → Type 0
+Made (Ask who token size) answer old new = (length old ≤ token → (answer ≡ None) × (new ≡ old)) × (token < length old → MatchOption answer (new ≡ noted old token (call_of who (Refuse size))) (λ place. new ≡ noted old token (call_of who (Grant size place))))
+Made (GiveBack who place) answer old new = (answer ≡ None) × ((t : ℕ) → t < length old → live place (slice_index_or old t []) ≡ true → new ≡ noted old t (call_of who (Release place))) × (((t : ℕ) → t < length old → live place (slice_index_or old t []) ≡ false) → new ≡ old)
 
 -- and what a list of calls notes, one after another
 abbrev pub MadeAll : List RangeCall → List (List HeapCall) → List (List HeapCall) → Type 0
 MadeAll [] old new = new ≡ old
-MadeAll (c ∷ cs) old new = (middle : List (List HeapCall)) × Made c old middle × MadeAll cs middle new
+MadeAll (c ∷ cs) old new = (answer : Option ℕ) × (middle : List (List HeapCall)) × Made c answer old middle × MadeAll cs middle new
+
+-- the first so many of the calls were made, and not all of them
+abbrev pub MadeSome : List RangeCall → List (List HeapCall) → List (List HeapCall) → Type 0
+MadeSome calls old new = (count : ℕ) × (count < length calls) × MadeAll (take count calls) old new

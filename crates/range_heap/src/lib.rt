@@ -13,12 +13,10 @@ mod laws;
 mod making;
 mod plain;
 mod ranges;
-#[cfg(test)]
-mod tests;
 
 pub use call::{HeapCall, HeapEvent, RangeCall};
 pub use half::Half;
 pub use heap::RangeHeap;
-pub use laws::{live_starts_differ, ranges_stay_apart, sizes_are_rounded_up};
+pub use laws::{histories_grow, live_starts_differ, ranges_stay_apart, sizes_are_rounded_up};
 pub use plain::lowest_place;
 pub use ranges::Ranges;

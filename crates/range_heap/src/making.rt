@@ -1,8 +1,8 @@
 //! Lists of calls on all ranges.
 
-ghost use Rattle.std.specs.Prelude.{◌≡◌, OnOk, OnErr};
+ghost use Rattle.std.specs.Prelude.{◌≡◌, None, IfOk, OnOk, OnErr};
 ghost use Rattle.range_heap.specs.Ranges.{AllLegal, StayApart};
-ghost use Rattle.range_heap.specs.Steps.{Made, MadeAll, histories};
+ghost use Rattle.range_heap.specs.Steps.{Made, MadeAll, MadeSome, histories};
 ghost use Rattle.range_heap.specs.declared.call.RangeCall.TheVariants.{GiveBack};
 
 use crate::call::RangeCall;
@@ -13,7 +13,7 @@ impl Ranges {
     /// Makes one call, in room that it makes. A place where no live block begins is passed over.
     pub fn make(&mut self, call: &RangeCall) -> Result<Option<u64>, NoMemory>
         ensures size { self.new.size ≡ self.old.size }
-        ensures made { OnOk result (Made call.now (histories self.old) (histories self.new)) }
+        ensures made { IfOk result (λ answer. Made call.now answer (histories self.old) (histories self.new)) }
         ensures kept { OnErr result (histories self.new ≡ histories self.old) }
     {
         match *call {
@@ -28,10 +28,11 @@ impl Ranges {
         }
     }
 
-    /// Makes a list of calls, one after another.
+    /// Makes a list of calls, one after another. Where memory runs out, the first of them were made.
     pub fn make_all(&mut self, calls: &[RangeCall]) -> Result<(), NoMemory>
         ensures size { self.new.size ≡ self.old.size }
         ensures made { OnOk result (MadeAll calls.now (histories self.old) (histories self.new)) }
+        ensures begun { OnErr result (MadeSome calls.now (histories self.old) (histories self.new)) }
         ensures legal { AllLegal self.new.size (histories self.new) }
         ensures apart { StayApart (histories self.new) }
     {
@@ -48,7 +49,7 @@ impl Ranges {
     /// Releases the block at `place`, if one is live there.
     fn give_back(&mut self, who: u32, place: u64) -> Result<(), NoMemory>
         ensures size { self.new.size ≡ self.old.size }
-        ensures made { OnOk result (Made (GiveBack who place) (histories self.old) (histories self.new)) }
+        ensures made { OnOk result (Made (GiveBack who place) None (histories self.old) (histories self.new)) }
         ensures kept { OnErr result (histories self.new ≡ histories self.old) }
     {
         self.stands();

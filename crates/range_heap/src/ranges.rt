@@ -5,11 +5,12 @@ ghost use Rattle.range_heap.specs.Seen.{Kept};
 ghost use Rattle.range_heap.specs.Ranges.{range_first, InRange, half_of, AllLegal, StayApart};
 ghost use Rattle.range_heap.specs.Steps.{Granted, Released, Roomier, Changed, HasLive, histories};
 
+use crate::call::HeapCall;
 use crate::half::Half;
 use crate::heap::RangeHeap;
 use std::alloc::Global;
 use std::marker::Model;
-use tok_base::NoMemory;
+use tok_base::{Items, NoMemory};
 
 /// The first address of range 0.
 const FIRST_ADDRESS: u64 = 16777216;
@@ -135,6 +136,18 @@ impl Ranges {
         ensures size { result.now.size ≡ self.now.size }
     {
         &self.heaps[token as usize]
+    }
+
+    /// The history of each range, without the heaps.
+    pub fn into_histories(self, alloc: Global) -> Result<Items<Items<HeapCall>>, NoMemory>
+        ensures { IfOk result (λ all. all ≡ histories self) }
+    {
+        let Ranges { heaps, .. } = self;
+        let row: Vec<Items<HeapCall>> = heaps
+            .into_iter()
+            .map(|heap| heap.into_history())
+            .collect(alloc)?;
+        Ok(Items::from_vec(row))
     }
 
     /// What always holds: each history is legal in its range, so that no two live blocks meet and the

@@ -9,5 +9,5 @@ loop-call-preserved c =
     let i = c.loop-call.invariant in (
       c.make.ensures.size ∙ i.0,
       subst (λ cs. MadeAll cs (histories c.args.self.now) (histories c.make.new.self)) (sym (take_more c.args.calls.now c.loop-call.call-index _ c.loop-call-test.true))
-          (made_more (take c.loop-call.call-index c.args.calls.now) _ (histories c.args.self.now) (histories c.loop-call.self) (histories c.make.new.self) i.1 c.in_default.ensures.made),
+          (made_more (take c.loop-call.call-index c.args.calls.now) _ _ (histories c.args.self.now) (histories c.loop-call.self) (histories c.make.new.self) i.1 c.in_default.ensures.made),
     )
