@@ -17,10 +17,6 @@ use tok_base::{Bytes, Items, NoMemory, RealFiles, RealSink, Status};
 #[cfg(test)]
 mod option_tests;
 #[cfg(test)]
-mod reading_tests;
-#[cfg(test)]
-mod tables;
-#[cfg(test)]
 mod tests;
 
 /// The words of the command line without the program's name; none where one of them is not UTF-8.
