@@ -10,6 +10,5 @@ statements (r.in_while o a k) = suc (statements k)
 statements (r.in_do o k) = suc (statements k)
 statements (r.in_for o x a e k) = suc (statements k)
 
-
 pub fewer : (n : ℕ) (p q : r.InStmt) → q ≡ p → statements q ≡ suc n → n < statements p
 fewer n p q e h = omega (arith, h, ap statements e)
