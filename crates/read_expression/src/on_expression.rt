@@ -22,7 +22,6 @@ use c_stack::inside::{
 use c_stack::levels::{level, needs, tight};
 use c_stack::make::{arrow, builtin, call, dot, index, mark, paren, post, text, with_argument};
 use c_stack::names::Names;
-use c_stack::numbers::refuse;
 use c_stack::parts::{array_of, some_value};
 use c_stack::place::{DeclaratorPlace, ExprFrame, ExprPlace, SpecsFrame, SpecsPlace};
 use c_stack::statements::plain_init;
@@ -358,7 +357,7 @@ fn close(
     ensures { (env : Env) → Gives env result (machine.close id end env d (view_expr_place k) (shown a) (view_symbol y.entry) span) }
 {
     match k.open() {
-        ExprFrame::Operand(_, x, k) => refuse((x, k, a)),
+        ExprFrame::Operand(..) => Err(StepEnd::Wrong),
         ExprFrame::Bracket(o, b, k) => close_bracket(alloc, id, o, d, b, k, a, y, span),
         ExprFrame::Stmt(o, p, k) => close_part(alloc, id, o, d, p, k, a, y, span),
         ExprFrame::Init(k) => init_next(alloc, id, end, d, k, plain_init(a), y, span),
