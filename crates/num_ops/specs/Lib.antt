@@ -1,4 +1,5 @@
 pub mod Arithmetic
+pub mod Constants
 pub mod Conversions
 pub mod Kinds
 pub mod Numbers

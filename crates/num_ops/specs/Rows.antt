@@ -1,9 +1,12 @@
 -- Worked rows of the definitions, all by computation.
-use Rattle.std.specs.Prelude.{◌≡◌, true, false, pos, negsuc, Ok, Err}
+use Rattle.std.specs.Prelude.{◌≡◌, true, false, pos, negsuc, Ok, Err, Some, None}
 use Rattle.num_ops.specs.declared.kinds.IntKind.TheVariants as k
 use Rattle.num_ops.specs.declared.arithmetic.Op.TheVariants as op
 use Rattle.num_ops.specs.declared.shifts.Cmp.TheVariants as cmp
 use Rattle.num_ops.specs.declared.arithmetic.Undefined.TheVariants as undefined
+use Rattle.num_ops.specs.declared.constants.Base.TheVariants as b
+use Rattle.num_ops.specs.declared.constants.Length.TheVariants as l
+use Rattle.num_ops.specs.Constants.{constant_kind}
 use Rattle.num_ops.specs.Conversions.{converted, promoted, common_kind}
 use Rattle.num_ops.specs.Arithmetic.{arithmetic, shifted, compared}
 
@@ -45,3 +48,21 @@ ShiftRows =
     × (shifted true k.Int (pos 1) (pos 32) ≡ Err undefined.Shift)
     × (shifted false k.Int (pos 1) (negsuc 0) ≡ Err undefined.Shift)
     × (shifted false k.Int (negsuc 6) (pos 1) ≡ Ok (negsuc 3))
+
+-- 2147483647, 2147483648, 0x80000000, 037777777777, 9223372036854775808, 0xffffffffffffffff, 1U, 4294967296U, 1L, 0x8000000000000000L,
+-- 1ULL, 9223372036854775808LL
+abbrev pub ConstantRows : Type 0
+ConstantRows =
+    (constant_kind b.Decimal false l.Plain 2147483647 ≡ Some k.Int)
+    × (constant_kind b.Decimal false l.Plain 2147483648 ≡ Some k.Long)
+    × (constant_kind b.Hexadecimal false l.Plain 2147483648 ≡ Some k.UInt)
+    × (constant_kind b.Octal false l.Plain 4294967295 ≡ Some k.UInt)
+    × (constant_kind b.Octal false l.Plain 4294967296 ≡ Some k.Long)
+    × (constant_kind b.Decimal false l.Plain 9223372036854775808 ≡ None)
+    × (constant_kind b.Hexadecimal false l.Plain 18446744073709551615 ≡ Some k.ULong)
+    × (constant_kind b.Decimal true l.Plain 1 ≡ Some k.UInt)
+    × (constant_kind b.Decimal true l.Plain 4294967296 ≡ Some k.ULong)
+    × (constant_kind b.Decimal false l.Long 1 ≡ Some k.Long)
+    × (constant_kind b.Hexadecimal false l.Long 9223372036854775808 ≡ Some k.ULong)
+    × (constant_kind b.Decimal true l.LongLong 1 ≡ Some k.ULongLong)
+    × (constant_kind b.Decimal false l.LongLong 9223372036854775808 ≡ None)

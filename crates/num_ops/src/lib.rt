@@ -6,6 +6,7 @@
 #![tactic(auto)]
 
 mod arithmetic;
+mod constants;
 mod conversions;
 mod kinds;
 mod numbers;
@@ -15,6 +16,7 @@ mod shifts;
 mod tests;
 
 pub use arithmetic::{Op, Undefined, arith};
+pub use constants::{Base, Length, constant_kind};
 pub use conversions::{common, convert, promote};
 pub use kinds::{IntKind, greatest, is_signed, least, width};
 pub use numbers::Int;
