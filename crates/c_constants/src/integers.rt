@@ -1,6 +1,7 @@
 //! Integer constants.
 
-ghost use Rattle.std.specs.Prelude.{◌≡◌, ◌≤◌, ◌^◌, drop, IfSome, IfNone, IsTrue, pos};
+ghost use Rattle.std.specs.Prelude.{◌≡◌, ◌≤◌, ◌^◌, drop, length, IfSome, IfNone, IsTrue, pos};
+ghost use Rattle.std.specs.List.{prefix_len};
 ghost use Rattle.num_ops.specs.Kinds.{holds};
 ghost use Rattle.c_lexer.specs.Number as number;
 ghost use Rattle.c_constants.specs.Integers as integers;
@@ -136,13 +137,23 @@ fn behind_two(text: &[u8]) -> &[u8]
     }
 }
 
+fn goes_on(b: u8) -> bool
+    ensures { result ≡ integers.goes_on b }
+{
+    !(is_unsigned_letter(b) || is_long_letter(b))
+}
+
+fn digits_len(text: &[u8]) -> usize
+    ensures value { result ≡ prefix_len integers.goes_on text.now }
+    ensures within { result ≤ length text.now }
+{
+    text.iter().take_while(|b| goes_on(**b)).count()
+}
+
 fn without_suffix(text: &[u8]) -> &[u8]
     ensures { result.now ≡ integers.without_suffix text.now }
 {
-    let n = text
-        .iter()
-        .take_while(|b| !(is_unsigned_letter(**b) || is_long_letter(**b)))
-        .count();
+    let n = digits_len(text);
     &text[..n]
 }
 

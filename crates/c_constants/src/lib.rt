@@ -12,4 +12,4 @@ mod literals;
 
 pub use integers::constant_of;
 pub use laws::{integers_law, literals_law, some_examples};
-pub use literals::{char_value, literal_bytes, literal_length};
+pub use literals::{char_value, literal_bytes};

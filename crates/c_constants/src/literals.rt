@@ -187,39 +187,6 @@ fn append(out: &mut Bytes, byte: Option<u8>) -> Result<(), NoMemory>
     }
 }
 
-/// How many bytes a literal stands for.
-pub fn literal_length(text: &[u8]) -> u64
-    ensures { result ≡ length (literals.literal_bytes text.now) }
-{
-    match text {
-        [] => 0,
-        [q, inside @ ..] => length_inside(*q, inside),
-    }
-}
-
-fn length_inside(q: u8, inside: &[u8]) -> u64
-    ensures { result ≡ length (literals.bytes_from q reading.Between inside.now) }
-{
-    let mut length: u64 = 0;
-    let mut reading = Reading::Between;
-    for b in inside {
-        let taken = take_byte(q, reading, *b);
-        length += count(taken.ended) + count(taken.own);
-        reading = taken.reading;
-    }
-    length
-}
-
-fn count(byte: Option<u8>) -> u64
-    ensures value { result ≡ length (literals.put byte []) }
-    ensures small { result ≤ 1 }
-{
-    match byte {
-        None => 0,
-        Some(_) => 1,
-    }
-}
-
 /// The value of a character constant, of type `int`: that of a `char` with its byte (6.4.4.4,
 /// paragraph 10).
 pub fn char_value(text: &[u8]) -> i32

@@ -1,5 +1,5 @@
 -- What holds of the parts of a table.
-use Rattle.std.specs.Prelude.{◌≡◌, ◌<◌, ℕ, List, length, slice_get, Some}
+use Rattle.std.specs.Prelude.{◌≡◌, ◌<◌, ℕ, List, length, slice_get, Option, Some}
 use Rattle.c_types.specs.Table.{AreOrdered, AllMembersBelow, NumbersBelow, type_at}
 use Rattle.c_types.specs.Facts.{IsFact}
 use Rattle.c_types.specs.Found.{found}

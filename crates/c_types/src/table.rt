@@ -8,7 +8,7 @@ mod qualifying;
 mod questions;
 mod spelling;
 
-ghost use Rattle.std.specs.Prelude.{◌≡◌, ◌≢◌, ◌<◌, ◌≤◌, ◌^◌, max, ◌||◌, ◌&&◌, ◌↔◌, IsTrue, length, [], ◌∷◌, ◌++◌, IfOk, OnOk, OnErr, IfErr, IsSome, IfSome, option_and_then, Some, None, slice_get, unwrap_or, is_some, nat_le, false, true};
+ghost use Rattle.std.specs.Prelude.{◌≡◌, List, Option, ◌≢◌, ◌<◌, ◌≤◌, ◌^◌, max, ◌||◌, ◌&&◌, ◌↔◌, IsTrue, length, [], ◌∷◌, ◌++◌, IfOk, OnOk, OnErr, IfErr, IsSome, IfSome, option_and_then, Some, None, slice_get, unwrap_or, is_some, nat_le, false, true};
 ghost use Rattle.std.specs.Option.{option_copied, option_map};
 ghost use Rattle.c_types.specs.CTypes as c;
 ghost use Rattle.c_types.specs.CTypes.{CType, is_flexible};

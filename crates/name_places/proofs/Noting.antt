@@ -1,6 +1,6 @@
 -- What an index has when a place is noted.
 use Rattle.std.proofs.Common.{◌≡◌, ℕ, cond, Bool, true, false, List, [], ◌∷◌, Option, Some, None, nat_eq, if◌then◌else◌, refl, sym, subst, ap, ◌∙◌}
-use Rattle.std.specs.Prelude.{◌×◌, is_some}
+use Rattle.std.specs.Prelude.{is_some}
 use Rattle.std.specs.Cmp.Lexicographic.{pointwise}
 use Rattle.std.specs.Cmp.Lexicographic as texts
 use Rattle.std.specs.Map.{lookup}
@@ -45,13 +45,18 @@ module _ {K : Type 0} (text : K → List ℕ) where
       let parts = none_parts (pointwise nat_eq (text k) (text e.0)) e.1 (placed_in es (text k)) n in
       step e es k place other (pointwise nat_eq (text k) (text e.0)) parts.0 (noted es k place other parts.1)
 
+  pub noted_by : (es : List (K × ℕ)) (k : K) (place : ℕ) (name other : List ℕ) → text k ≡ name → placed_in es name ≡ None
+      → placed_in (insert_entry eq_by es k place) other ≡ with_place (placed_in es) name place other
+  noted_by es k place name other e n =
+      subst (λ (x : List ℕ). placed_in (insert_entry eq_by es k place) other ≡ with_place (placed_in es) x place other) e (noted es k place other (ap (placed_in es) e ∙ n))
+
 -- a name that has a place keeps it
-pub there : (f : List ℕ → Option ℕ) (name : List ℕ) (place : ℕ) (other : List ℕ) → is_some (f name) ≡ true → f other ≡ with_place f name place other
-there f name place other h = by (pointwise nat_eq other name) refl
+pub there : (f : List ℕ → Option ℕ) (name : List ℕ) (place was : ℕ) (other : List ℕ) → f name ≡ Some was → f other ≡ with_place f name place other
+there f name place was other g = by (pointwise nat_eq other name) refl
   where
   has : (o : Option ℕ) (p : Option ℕ) → is_some o ≡ true → o ≡ or_else o p
   has (Some n) p e = refl
   has None p e = cc
   by : (b : Bool) → pointwise nat_eq other name ≡ b → f other ≡ or_else (f other) (if b then Some place else None)
-  by true e = has (f other) (Some place) (ap (λ n. is_some (f n)) (texts.same_text other name (sym e)) ∙ h)
+  by true e = has (f other) (Some place) (ap (λ n. is_some (f n)) (texts.same_text other name (sym e)) ∙ ap is_some g)
   by false e = sym (or_none (f other))

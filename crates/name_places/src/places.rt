@@ -1,6 +1,6 @@
 //! Names and their places.
 
-ghost use Rattle.std.specs.Prelude.{◌≡◌, ℕ, List, None, OnOk, OnErr};
+ghost use Rattle.std.specs.Prelude.{◌≡◌, ℕ, List, None, OnOk};
 ghost use Rattle.name_places.specs.Placed.{placed, with_place};
 
 use indexmap::IndexMap;
@@ -34,9 +34,16 @@ impl NamePlaces {
     pub fn note(&mut self, alloc: Global, name: &[u8], place: u64) -> Result<(), NoMemory>
         ensures { OnOk result ((other : List ℕ) → placed self.new other ≡ with_place (placed self.old) name.now place other) }
     {
-        if self.find(name).is_some() {
-            return Ok(());
+        match self.find(name) {
+            Some(_was) => Ok(()),
+            None => self.insert(alloc, name, place),
         }
+    }
+
+    fn insert(&mut self, alloc: Global, name: &[u8], place: u64) -> Result<(), NoMemory>
+        requires { placed self.old name.now ≡ None }
+        ensures { OnOk result ((other : List ℕ) → placed self.new other ≡ with_place (placed self.old) name.now place other) }
+    {
         let key = Vec::from_slice(alloc, name)?;
         match self.index.insert(key, place) {
             Ok(_) => Ok(()),

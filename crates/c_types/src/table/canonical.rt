@@ -11,7 +11,6 @@ ghost use Rattle.c_types.specs.Records.{refusal, array_refusal};
 ghost use Rattle.c_types.specs.Roots.{IsRoot, IsCanonical, IsRootTerm, AreParameters};
 ghost use Rattle.c_types.specs.Shapes.{IsShape};
 ghost use Rattle.c_types.specs.Table.{type_at, types_at, term_type, IsLonger, PartsBelow, NumbersBelow, AllBelow};
-ghost use Rattle.c_types.specs.declared.terms.Term.{Term};
 ghost use Rattle.c_types.specs.declared.terms.TypeEnd.TheVariants as end;
 
 use super::TypeTable;
@@ -50,12 +49,12 @@ impl TypeTable {
         ensures longer { IsLonger self.old self.new }
     {
         let ints = self.ints_of(&term, fact)?;
-        self.place(term, fact, ints)
+        self.put_root(term, fact, ints)
     }
 
     /// Finds a canonical type, or puts it at the end; `ints` is the one in which enumerations count as
     /// `int`, where that is another one.
-    pub(super) fn place(
+    pub(super) fn put_root(
         &mut self,
         term: Term,
         fact: Facts,
@@ -89,7 +88,8 @@ impl TypeTable {
         requires numbers { NumbersBelow (length self.now.records) (length self.now.enums) term.now }
         requires other { IfSome ints (λ id. IsRoot self.now.terms id.0 × (type_at self.now.terms id.0 ≡ with_ints (term_type self.now.terms term.now))) }
         requires own { IfNone ints (with_ints (term_type self.now.terms term.now) ≡ term_type self.now.terms term.now) }
-        ensures { (t : Term) → t ≡ term.now → IsRoot (self.now.terms ++ t ∷ []) (length self.now.terms) → IsShape (self.now.terms ++ t ∷ []) (length self.now.terms) result }
+        requires new { IsCanonical (self.now.terms ++ term.now ∷ []) (length self.now.terms) (length self.now.terms) }
+        ensures { IsShape (self.now.terms ++ term.now ∷ []) (length self.now.terms) result }
     {
         let root = TypeId(self.len());
         let ints = ints.unwrap_or(root);
@@ -110,7 +110,7 @@ impl TypeTable {
         requires parts { PartsBelow (length self.now.terms) term.now }
         requires numbers { NumbersBelow (length self.now.records) (length self.now.enums) term.now }
         ensures below { result.0.0 ≤ length self.now.terms }
-        ensures plain { (t : Term) → t ≡ term.now → type_at (self.now.terms ++ t ∷ []) result.0.0 ≡ plain (term_type self.now.terms t) }
+        ensures plain { type_at (self.now.terms ++ term.now ∷ []) result.0.0 ≡ plain (term_type self.now.terms term.now) }
         ensures qualifiers { result.1 ≡ qualifiers_met (term_type self.now.terms term.now) }
         ensures small { result.1 < 8 }
     {

@@ -135,7 +135,7 @@ impl TypeTable {
         ensures some { IfOk result (λ o. IsSome o) }
         ensures longer { IsLonger self.old self.new }
     {
-        let id = self.place(term, fact, None)?;
+        let id = self.put_root(term, fact, None)?;
         Ok(Some(id))
     }
 }

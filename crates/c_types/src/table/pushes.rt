@@ -146,7 +146,7 @@ impl TypeTable {
         requires numbers { NumbersBelow (length self.now.records) (length self.now.enums) term.now }
         requires root { IsRoot self.now.terms root.0 }
         requires canonical { type_at self.now.terms root.0 ≡ canonical (term_type self.now.terms term.now) }
-        ensures { (t : Term) → t ≡ term.now → IsShape (self.now.terms ++ t ∷ []) (length self.now.terms) result }
+        ensures { IsShape (self.now.terms ++ term.now ∷ []) (length self.now.terms) result }
     {
         let (plain, qualifiers) = self.plain_of(term);
         Shape {
@@ -171,7 +171,7 @@ impl TypeTable {
     {
         let number = self.count_records();
         self.push_head(head)?;
-        match self.place(Term::Record(number), Facts::of_record(number), None) {
+        match self.put_root(Term::Record(number), Facts::of_record(number), None) {
             Ok(id) => Ok(id),
             Err(NoMemory) => {
                 self.drop_head(number);
@@ -227,10 +227,10 @@ impl TypeTable {
         ensures grows { OnOk result (Grows self.old.terms self.new.terms) }
         ensures err { OnErr result (IsLonger self.old self.new) }
     {
-        let ints = self.place(Term::Int(IntKind::Int), Facts::of_int(IntKind::Int), None)?;
+        let ints = self.put_root(Term::Int(IntKind::Int), Facts::of_int(IntKind::Int), None)?;
         let number = self.count_enums();
         self.push_name(name)?;
-        match self.place(Term::Enum(number), Facts::of_enum(), Some(ints)) {
+        match self.put_root(Term::Enum(number), Facts::of_enum(), Some(ints)) {
             Ok(id) => Ok(id),
             Err(NoMemory) => {
                 self.drop_name(number);
