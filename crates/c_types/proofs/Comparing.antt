@@ -1,5 +1,5 @@
 -- Equality of types, and enumerations that count as int.
-use Rattle.std.proofs.Common.{rules, ◌≡◌, ℕ, List, [], ◌∷◌, Bool, true, false, ◌&&◌, ◌||◌, ◌*◌, nat_eq, Option, Some, None, IfSome, refl, sym, ◌∙◌, ap, subst}
+use Rattle.std.proofs.Common.{rules, ◌≡◌, ℕ, List, [], ◌∷◌, Bool, true, false, ◌&&◌, ◌||◌, ◌*◌, nat_eq, eqb, Option, Some, None, IfSome, refl, sym, ◌∙◌, ap, subst}
 use Rattle.std.specs.Option.{option_map}
 use Rattle.std.specs.Cmp.Lexicographic.{pointwise}
 use Rattle.std.specs.Cmp.Lexicographic as texts
@@ -13,11 +13,15 @@ use Rattle.c_types.specs.Keys.{kind_number}
 use Rattle.c_types.specs.Layout.{size, align}
 use Rattle.c_types.specs.Plain.{has_const}
 use Rattle.c_types.specs.Pointers.{contains_pointer, is_uintptr}
-use Rattle.c_types.specs.Roots.{is_bare}
+use Rattle.c_types.specs.Roots.{IsRoot, is_bare}
+use Rattle.c_types.specs.Sameness.{IsFirst}
+use Rattle.c_types.specs.Table.{type_at}
+use Rattle.c_types.specs.declared.terms.Term.{Term}
 use Rattle.c_types.specs.declared.facts.Facts.{Facts}
 use Rattle.c_types.specs.declared.records.Layout.{Layout}
 use Rattle.num_ops.specs.declared.kinds.IntKind.{IntKind}
-use Rattle.c_types.proofs.Rooting.{kind_back, kind_of}
+use Rattle.std.proofs.lemmas.Bool.{eqb-true, eq-eqb}
+use Rattle.c_types.proofs.Rooting.{kind_back, kind_of, one_first}
 
 -- ---- enumerations that count as int
 
@@ -167,3 +171,14 @@ equal_is false t u f g = by (equal t u) refl
   by : (d : Bool) → equal t u ≡ d → false ≡ equal t u
   by true e = g (equal_tells t u e) ∙ sym e
   by false e = sym e
+
+-- ---- numbers of canonical types
+
+pub firsts_equal : (ts : List Term) (t u : CType) (x y : ℕ) → IsFirst ts t x → IsFirst ts u y → eqb x y ≡ equal t u
+firsts_equal ts t u x y a b =
+    equal_is (eqb x y) t u
+        (λ h. let e : x ≡ y = eqb-true x y h in sym a.is ∙ ap (type_at ts) e ∙ b.is)
+        (λ e. let f : x ≡ y = one_first ts t x y a (rw e b) in eq-eqb x y f)
+
+pub roots_equal : (ts : List Term) (t u : CType) (x y : ℕ) → IsRoot ts x → IsRoot ts y → type_at ts x ≡ t → type_at ts y ≡ u → eqb x y ≡ equal t u
+roots_equal ts t u x y a b e f = firsts_equal ts t u x y (rw e at a.first) (rw f at b.first)

@@ -3,7 +3,9 @@ use Rattle.std.proofs.Common.{◌≡◌, ◌⊎◌, inl, inr, ℕ, zero, suc, �
 use Rattle.std.specs.Prelude.{option_and_then}
 use Rattle.c_types.specs.CTypes as c
 use Rattle.c_types.specs.CTypes.{CType}
+use Rattle.std.specs.Prelude.{is_some}
 use Rattle.c_types.specs.Layout.{layout_at}
+use Rattle.c_types.specs.Records.{finished_by}
 use Rattle.c_types.specs.Table.{Table, type_at, term_type, Grows}
 use Rattle.c_types.specs.Facts.{Extends, IsFact}
 use Rattle.c_types.specs.declared.facts.Facts.{Facts}
@@ -114,3 +116,15 @@ pub within : {A : Type 0} (xs : List A) (i : ℕ) (x : A) → slice_get xs i ≡
 within [] i x e = cc
 within (y ∷ ys) zero x e = omega arith
 within (y ∷ ys) (suc i) x e = let h = within ys i x e in omega arith
+
+-- a finished record has its place among the members
+finished_at : (ls : List (Option Layout)) (k : ℕ) → is_some (layout_at ls k) ≡ true → k < length ls
+finished_at [] k e = cc
+finished_at (x ∷ ls) zero e = omega arith
+finished_at (x ∷ ls) (suc k) e = let h = finished_at ls k e in omega arith
+
+pub finished_within : (ls : List (Option Layout)) (r : Option ℕ) (k n : ℕ) → finished_by ls r ≡ true → r ≡ Some k → n ≡ length ls → k < n
+finished_within ls r k n e s l = let f : is_some (layout_at ls k) ≡ true = rw s at e in rw l (finished_at ls k f)
+
+pub finished_some : (ls : List (Option Layout)) (r : Option ℕ) → finished_by ls r ≡ true → r ≡ None → ⊥
+finished_some ls r e n = let f : finished_by ls None ≡ true = rw n at e in cc

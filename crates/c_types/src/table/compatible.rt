@@ -1,10 +1,10 @@
 //! The same type, and compatible types.
 
-ghost use Rattle.std.specs.Prelude.{◌≡◌, ◌<◌, ◌↔◌, IsTrue, IsSome, length, IfOk, IfSome, IfNone};
+ghost use Rattle.std.specs.Prelude.{◌≡◌, ◌<◌, ◌↔◌, true, IsTrue, IsSome, length, IfOk, IfSome, IfNone};
 ghost use Rattle.c_types.specs.Canonical.{canonical, unqualified};
 ghost use Rattle.c_types.specs.Compatible.{is_same, are_compatible, are_alike, with_ints};
 ghost use Rattle.c_types.specs.Facts.{IsFact};
-ghost use Rattle.c_types.specs.Roots.{IsRoot, IsRootTerm};
+ghost use Rattle.c_types.specs.Roots.{IsRoot, IsRootTerm, is_bare};
 ghost use Rattle.c_types.specs.Sameness.{IsFirst};
 ghost use Rattle.c_types.specs.Table.{type_at, term_type, IsLonger, NumbersBelow};
 
@@ -55,8 +55,10 @@ impl TypeTable {
         requires b { b.0 < length self.now.terms }
         ensures { result ≡ are_alike (type_at self.now.terms a.0) (type_at self.now.terms b.0) }
     {
-        let first = self.unqualified(self.ints(a));
-        let second = self.unqualified(self.ints(b));
+        let ints_a = self.ints(a);
+        let ints_b = self.ints(b);
+        let first = self.unqualified(ints_a);
+        let second = self.unqualified(ints_b);
         first.0 == second.0
     }
 
@@ -67,6 +69,17 @@ impl TypeTable {
         ensures root { IsRoot self.now.terms result.0 }
     {
         self.shape(id).ints
+    }
+
+    /// Of a canonical type.
+    fn ints_at(&self, root: TypeId) -> TypeId
+        requires { IsRoot self.now.terms root.0 }
+        ensures is { type_at self.now.terms result.0 ≡ with_ints (type_at self.now.terms root.0) }
+        ensures root { IsRoot self.now.terms result.0 }
+        ensures bare { is_bare (type_at self.now.terms root.0) ≡ true → is_bare (type_at self.now.terms result.0) ≡ true }
+        ensures done { with_ints (type_at self.now.terms result.0) ≡ type_at self.now.terms result.0 }
+    {
+        self.ints(root)
     }
 
     /// A canonical type without its outer qualifiers.
@@ -94,29 +107,29 @@ impl TypeTable {
         match term {
             Term::Enum(_) => self.other(Term::Int(IntKind::Int), fact),
             Term::Pointer(to) => {
-                let ints = self.ints(*to);
-                if ints == *to {
+                let ints = self.ints_at(*to);
+                if ints.0 == to.0 {
                     return Ok(None);
                 }
                 self.other(Term::Pointer(ints), fact)
             }
             Term::Array(element, count) => {
-                let ints = self.ints(*element);
-                if ints == *element {
+                let ints = self.ints_at(*element);
+                if ints.0 == element.0 {
                     return Ok(None);
                 }
                 self.other(Term::Array(ints, *count), fact)
             }
             Term::Flexible(element) => {
-                let ints = self.ints(*element);
-                if ints == *element {
+                let ints = self.ints_at(*element);
+                if ints.0 == element.0 {
                     return Ok(None);
                 }
                 self.other(Term::Flexible(ints), fact)
             }
             Term::Qualified(qualifiers, inner) => {
-                let ints = self.ints(*inner);
-                if ints == *inner {
+                let ints = self.ints_at(*inner);
+                if ints.0 == inner.0 {
                     return Ok(None);
                 }
                 self.other(Term::Qualified(*qualifiers, ints), fact)

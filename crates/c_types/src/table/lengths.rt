@@ -79,7 +79,11 @@ impl TypeTable {
             inside = inside.saturating_add(self.spelled_at(*parameter).length);
             inside = inside.saturating_add(2);
         }
-        let inside = if inside == 0 { 4 } else { inside - 2 };
+        let inside = if inside == 0 {
+            4
+        } else {
+            inside.saturating_sub(2)
+        };
         Spelled {
             length: before
                 .length

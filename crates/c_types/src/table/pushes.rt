@@ -19,7 +19,7 @@ use super::TypeTable;
 use crate::facts::{Facts, Shape};
 use crate::keys::key_of;
 use crate::numbers::Numbers;
-use crate::records::{Head, Members};
+use crate::records::{Head, Layout, Members};
 use crate::terms::{Term, TypeEnd, TypeId};
 use num_ops::IntKind;
 use tok_base::{Bytes, NoMemory, Reserved};
@@ -194,12 +194,14 @@ impl TypeTable {
         ensures ok { OnOk result (self.new ≡ record self.old { records = self.old.records ++ head ∷ []; layouts = self.old.layouts ++ None ∷ []; members = self.old.members ++ [] ∷ [] }) }
         ensures err { OnErr result (self.new ≡ self.old) }
     {
-        self.records.reserve(1)?;
-        self.layouts.reserve(1)?;
-        self.members.reserve(1)?;
-        self.records.push(head);
-        self.layouts.push(None);
-        self.members.push(Members::none(self.alloc));
+        let none = Members::none(self.alloc);
+        push_open(
+            &mut self.records,
+            &mut self.layouts,
+            &mut self.members,
+            head,
+            none,
+        )?;
         Ok(())
     }
 
@@ -270,7 +272,7 @@ impl TypeTable {
         ensures count { result ≡ length self.now.terms }
         ensures members { AllMembersBelow (length self.now.terms) self.now.members }
     {
-        self.len()
+        self.terms.len() as u64
     }
 
     /// Gives up all types but the first `count`, which no member has.
@@ -312,5 +314,29 @@ fn push_all(
     terms.push(term);
     facts.push(fact);
     shapes.push(shape);
+    Ok(())
+}
+
+/// Puts the parts of a record that is not finished at the end, or none.
+fn push_open(
+    records: &mut Reserved<Head>,
+    layouts: &mut Reserved<Option<Layout>>,
+    members: &mut Reserved<Members>,
+    head: Head,
+    none: Members,
+) -> Result<(), NoMemory>
+    ensures records { OnOk result (records.new.items ≡ records.old.items ++ head ∷ []) }
+    ensures layouts { OnOk result (layouts.new.items ≡ layouts.old.items ++ None ∷ []) }
+    ensures members { OnOk result (members.new.items ≡ members.old.items ++ none ∷ []) }
+    ensures records_stay { OnErr result (records.new.items ≡ records.old.items) }
+    ensures layouts_stay { OnErr result (layouts.new.items ≡ layouts.old.items) }
+    ensures members_stay { OnErr result (members.new.items ≡ members.old.items) }
+{
+    records.reserve(1)?;
+    layouts.reserve(1)?;
+    members.reserve(1)?;
+    records.push(head);
+    layouts.push(None);
+    members.push(none);
     Ok(())
 }

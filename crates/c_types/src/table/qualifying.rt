@@ -76,7 +76,8 @@ impl TypeTable {
         ensures is { IfOk result (λ o. IfSome o (λ made. type_at self.now.terms made.0 ≡ qualify qualifiers (type_at self.now.terms root.0))) }
     {
         let own = key_of(self.alloc, &Term::Qualified(qualifiers, root))?;
-        match self.find(own.as_slice())? {
+        let found = self.find(own.as_slice())?;
+        match found {
             None => Ok(None),
             Some(id) => Ok(Some(self.root(id))),
         }

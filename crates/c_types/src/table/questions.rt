@@ -1,7 +1,8 @@
 //! What the table tells of a type at once.
 
-ghost use Rattle.std.specs.Prelude.{◌≡◌, ◌<◌, ◌↔◌, length, IfSome, IsSome, IsTrue};
+ghost use Rattle.std.specs.Prelude.{◌≡◌, ◌<◌, ◌↔◌, length, IfSome, IsSome, IsTrue, Some};
 ghost use Rattle.name_places.specs.Placed.{place_of};
+ghost use Rattle.c_types.specs.CTypes.{record_of};
 ghost use Rattle.c_types.specs.Consts.{holds_const, has_const_member, const_member_by};
 ghost use Rattle.c_types.specs.Members.{names_in};
 ghost use Rattle.c_types.specs.Plain as plain;
@@ -122,9 +123,20 @@ impl TypeTable {
         ensures are { result.now ≡ members_of self.now.members (type_at self.now.terms id.0) }
         ensures valid { MembersBelow (length self.now.terms) result.now }
     {
-        match self.fact(id).record_number {
+        let number = self.finished_number(id);
+        self.members_at(number).list()
+    }
+
+    /// The number of a finished record.
+    fn finished_number(&self, id: TypeId) -> u64
+        requires valid { id.0 < length self.now.terms }
+        requires finished { IsTrue (is_finished self.now.layouts (type_at self.now.terms id.0)) }
+        ensures is { record_of (type_at self.now.terms id.0) ≡ Some result }
+        ensures within { result < length self.now.members }
+    {
+        match self.facts.as_slice()[id.0 as usize].record_number {
             None => unreachable!(),
-            Some(number) => self.members_at(number).list(),
+            Some(number) => number,
         }
     }
 
@@ -143,10 +155,8 @@ impl TypeTable {
         requires finished { IsTrue (is_finished self.now.layouts (type_at self.now.terms id.0)) }
         ensures { result ≡ place_of name.now (names_in (members_of self.now.members (type_at self.now.terms id.0))) }
     {
-        match self.fact(id).record_number {
-            None => unreachable!(),
-            Some(number) => self.members_at(number).find(name),
-        }
+        let number = self.finished_number(id);
+        self.members_at(number).find(name)
     }
 
     /// Where a member of a finished record stands, in bytes from its beginning.
