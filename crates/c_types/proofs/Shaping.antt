@@ -12,8 +12,9 @@ use Rattle.c_types.specs.Plain.{plain, qualifiers_met}
 use Rattle.c_types.specs.Roots.{IsRoot, IsCanonical}
 use Rattle.c_types.specs.Shapes.{IsShape, AreShapes}
 use Rattle.c_types.specs.Sound.{AreNumbered, AreSmall}
-use Rattle.c_types.specs.Table.{type_at, term_type, Grows, NumbersBelow, MembersBelow, AllMembersBelow}
+use Rattle.c_types.specs.Table.{Table, type_at, term_type, Grows, NumbersBelow, MembersBelow, AllMembersBelow}
 use Rattle.c_types.specs.declared.facts.Shape.{Shape}
+use Rattle.c_types.specs.declared.records.Head.{Head}
 use Rattle.c_types.specs.declared.records.Layout.{Layout}
 use Rattle.c_types.specs.declared.records.Member.{Member}
 use Rattle.c_types.specs.declared.terms.Term.{Term}
@@ -21,9 +22,36 @@ use Rattle.c_types.specs.declared.terms.Term.TheVariants as m
 use Rattle.c_types.specs.declared.terms.TypeId.{TypeId}
 use Rattle.c_types.proofs.Growing.{grows_more, at_more}
 use Rattle.c_types.proofs.Keeping.{root_up, root_down, canonical_up, canonical_down, behind, grows_take, cut_long, get_take}
-use Rattle.c_types.proofs.Sounding.{get_more, within}
+use Rattle.std.proofs.Math.Seq.{take-append_seam}
+use Rattle.c_types.proofs.Sounding.{get_more, last_is, within}
 
 -- ---- shapes
+
+-- a term that is no typedef name and has no qualifiers of its own
+module _ (ts : List Term) where
+  pub own_plain : (t : Term) → ((n : List ℕ) (e : TypeId) → t ≡ m.Named n e → ⊥) → ((q : ℕ) (e : TypeId) → t ≡ m.Qualified q e → ⊥) → plain (term_type ts t) ≡ term_type ts t
+  own_plain (m.Named n e) a b = absurd (a n e refl)
+  own_plain (m.Qualified q e) a b = absurd (b q e refl)
+  own_plain m.Void a b = refl
+  own_plain (m.Int k) a b = refl
+  own_plain (m.Enum e) a b = refl
+  own_plain (m.Pointer t) a b = refl
+  own_plain (m.Array t n) a b = refl
+  own_plain (m.Flexible t) a b = refl
+  own_plain (m.Function t ps) a b = refl
+  own_plain (m.Record k) a b = refl
+
+  pub own_qualifiers : (t : Term) → ((n : List ℕ) (e : TypeId) → t ≡ m.Named n e → ⊥) → ((q : ℕ) (e : TypeId) → t ≡ m.Qualified q e → ⊥) → qualifiers_met (term_type ts t) ≡ 0
+  own_qualifiers (m.Named n e) a b = absurd (a n e refl)
+  own_qualifiers (m.Qualified q e) a b = absurd (b q e refl)
+  own_qualifiers m.Void a b = refl
+  own_qualifiers (m.Int k) a b = refl
+  own_qualifiers (m.Enum e) a b = refl
+  own_qualifiers (m.Pointer t) a b = refl
+  own_qualifiers (m.Array t n) a b = refl
+  own_qualifiers (m.Flexible t) a b = refl
+  own_qualifiers (m.Function t ps) a b = refl
+  own_qualifiers (m.Record k) a b = refl
 
 pub shape_up : (a b : List Term) (i : ℕ) (s : Shape) → Grows a b → i < length a → IsShape a i s → IsShape b i s
 shape_up a b i s g below x =
@@ -153,8 +181,10 @@ numbered_weaker r e s f ts h k all i t at = weaker r e s f t h k (all i t at)
 -- ---- members
 
 all_weaker : (n k : ℕ) (ms : List Member) → n ≤ k → MembersBelow n ms → MembersBelow k ms
-all_weaker n k [] h x = tt
-all_weaker n k (y ∷ ms) h x = (let l = x.0 in omega arith, all_weaker n k ms h x.1)
+all_weaker n k ms h x = λ i d l. let y = x i d l in omega arith
+
+none_below : (n : ℕ) → MembersBelow n []
+none_below n = λ i d l. absurd (omega arith)
 
 pub members_weaker : (n k : ℕ) (mss : List (List Member)) → n ≤ k → AllMembersBelow n mss → AllMembersBelow k mss
 members_weaker n k mss h all i ms at = all_weaker n k ms h (all i ms at)
@@ -162,15 +192,14 @@ members_weaker n k mss h all i ms at = all_weaker n k ms h (all i ms at)
 pub members_push : (n : ℕ) (mss : List (List Member)) → AllMembersBelow n mss → AllMembersBelow n (mss ++ [] ∷ [])
 members_push n mss all i ms at = elim (get_more mss [] ms i at) [
   | inl p ↦ all i ms p.1
-  | inr p ↦ subst (MembersBelow n) p.1 tt
+  | inr p ↦ subst (MembersBelow n) p.1 (none_below n)
 ]
 
 pub members_take : (n k : ℕ) (mss : List (List Member)) → AllMembersBelow n mss → AllMembersBelow n (take k mss)
 members_take n k mss all i ms at = all i ms (get_take k mss i ms at)
 
 below_both : (n k : ℕ) (ms : List Member) → MembersBelow n ms → MembersBelow k ms → MembersBelow (min n k) ms
-below_both n k [] x y = tt
-below_both n k (m ∷ ms) x y = (let a = x.0 in let b = y.0 in omega arith, below_both n k ms x.1 y.1)
+below_both n k ms x y = λ i d l. let a = x i d l in let b = y i d l in omega arith
 
 pub members_cut : (n : ℕ) (ts : List Term) (mss : List (List Member)) → AllMembersBelow (length ts) mss → AllMembersBelow n mss → AllMembersBelow (length (take n ts)) mss
 members_cut n ts mss a b i ms at = let l : length (take n ts) ≡ min n (length ts) = length-take n ts in rw l (below_both n (length ts) ms (b i ms at) (a i ms at))
@@ -205,12 +234,25 @@ small_set (x ∷ ls) (suc n) new all h (suc k) l at = small_set ls n new (λ j y
 
 -- a last record that is not finished has no layout
 less : (ls : List (Option Layout)) (n k : ℕ) (l : Layout) → length ls ≡ suc n → slice_get ls n ≡ Some None → layout_at ls k ≡ Some l → layout_at (take n ls) k ≡ Some l
-less [] n k l long open at = cc
-less (x ∷ ls) zero zero l long open at = let e : x ≡ None = cc in (let z = rw e at at in cc)
-less (x ∷ []) zero (suc k) l long open at = cc
-less (x ∷ y ∷ ls) zero (suc k) l long open at = absurd (omega (arith, long))
-less (x ∷ ls) (suc n) zero l long open at = at
-less (x ∷ ls) (suc n) (suc k) l long open at = less ls n k l (omega (arith, long)) open at
+less [] n k l long last at = cc
+less (x ∷ ls) zero zero l long last at = let e : x ≡ None = cc in (let z = rw e at at in cc)
+less (x ∷ []) zero (suc k) l long last at = cc
+less (x ∷ y ∷ ls) zero (suc k) l long last at = absurd (omega (arith, long))
+less (x ∷ ls) (suc n) zero l long last at = at
+less (x ∷ ls) (suc n) (suc k) l long last at = less ls n k l (omega (arith, long)) last at
 
 pub extends_less : (ls : List (Option Layout)) (n : ℕ) → length ls ≡ suc n → slice_get ls n ≡ Some None → Extends ls (take n ls)
-extends_less ls n long open = record { keeps = λ k l at. less ls n k l long open at }
+extends_less ls n long last = record { keeps = λ k l at. less ls n k l long last at }
+
+-- ---- a record or an enumeration that is taken back
+
+pub head_back : (t : Table) (h : Head) (o : Option Layout) (ms : List Member) (n : ℕ) → n ≡ length t.records → length t.layouts ≡ length t.records → length t.members ≡ length t.records
+    → record t { records = take n (t.records ++ h ∷ []); layouts = take n (t.layouts ++ o ∷ []); members = take n (t.members ++ ms ∷ []) } ≡ t
+head_back t h o ms n e l k =
+    let first : take n (t.records ++ h ∷ []) ≡ t.records = ap (λ x. take x (t.records ++ h ∷ [])) e ∙ take-append_seam t.records (h ∷ []) in
+    let second : take n (t.layouts ++ o ∷ []) ≡ t.layouts = ap (λ x. take x (t.layouts ++ o ∷ [])) (e ∙ sym l) ∙ take-append_seam t.layouts (o ∷ []) in
+    let third : take n (t.members ++ ms ∷ []) ≡ t.members = ap (λ x. take x (t.members ++ ms ∷ [])) (e ∙ sym k) ∙ take-append_seam t.members (ms ∷ []) in
+    rw (first, second, third) refl
+
+pub slot_last : (ls : List (Option Layout)) (n : ℕ) → n ≡ length ls → slice_get (ls ++ None ∷ []) n ≡ Some None
+slot_last ls n e = rw e (last_is ls None)

@@ -13,7 +13,8 @@ use Rattle.c_types.specs.declared.records.Layout.{Layout}
 use Rattle.c_types.specs.declared.terms.Term.{Term}
 use Rattle.c_types.specs.declared.terms.TypeId.{TypeId}
 use Rattle.c_types.specs.declared.terms.TypeEnd.{TypeEnd}
-use Rattle.c_types.specs.Table.{AreOrdered, PartsBelow, is_open, is_open_slot, number_of}
+use Rattle.c_types.specs.Table.{AreOrdered, PartsBelow, number_of}
+use Rattle.c_types.specs.Records.{is_open, is_open_slot}
 use Rattle.c_types.proofs.Growing.{grows_more, at_more, grows_self, ordered_more}
 use Rattle.c_types.proofs.Knowing.{fact_on}
 
@@ -23,7 +24,7 @@ get_more [] x y (suc i) e = cc
 get_more (z ∷ xs) x y zero e = inl (omega arith, e)
 get_more (z ∷ xs) x y (suc i) e = elim (get_more xs x y i e) [ inl p ↦ inl (omega (arith, p.0), p.1) | inr p ↦ inr (ap suc p.0, p.1) ]
 
-last_is : {A : Type 0} (xs : List A) (x : A) → slice_get (xs ++ x ∷ []) (length xs) ≡ Some x
+pub last_is : {A : Type 0} (xs : List A) (x : A) → slice_get (xs ++ x ∷ []) (length xs) ≡ Some x
 last_is [] x = refl
 last_is (y ∷ ys) x = last_is ys x
 

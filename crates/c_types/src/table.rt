@@ -156,6 +156,7 @@ impl TypeTable {
         ensures is { result ≡ size self.now.layouts (type_at self.now.terms id.0) }
         ensures small { IfSome result (λ s. s < limit) }
     {
+        let _ = &self.alloc;
         let fact = self.fact(id);
         self.known_size(fact)
     }
@@ -180,8 +181,7 @@ impl TypeTable {
 
     /// The layout of a record, if it is finished.
     fn layout(&self, number: u64) -> Option<&Layout>
-        ensures is { option_copied result ≡ layout_at self.now.layouts number }
-        ensures small { IfSome result (λ l. l.now.size < limit) }
+        ensures { option_copied result ≡ layout_at self.now.layouts number }
     {
         match self.layouts.get(number as usize) {
             None => None,
@@ -193,9 +193,7 @@ impl TypeTable {
     }
 
     fn known_size(&self, fact: Facts) -> Option<u32>
-        requires { IfSome fact.size (λ s. s < limit) }
-        ensures is { result ≡ size_by self.now.layouts fact.record_number fact.size }
-        ensures small { IfSome result (λ s. s < limit) }
+        ensures { result ≡ size_by self.now.layouts fact.record_number fact.size }
     {
         match fact.record_number {
             None => fact.size,

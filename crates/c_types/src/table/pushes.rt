@@ -6,7 +6,7 @@ ghost use Rattle.c_types.specs.Facts.{IsFact};
 ghost use Rattle.c_types.specs.Found.{found};
 ghost use Rattle.c_types.specs.Keys.{key};
 ghost use Rattle.c_types.specs.Canonical.{canonical};
-ghost use Rattle.c_types.specs.Records.{refusal};
+ghost use Rattle.c_types.specs.Records.{is_open, refusal};
 ghost use Rattle.c_types.specs.Roots.{IsRoot, IsRootTerm, IsFresh};
 ghost use Rattle.c_types.specs.Shapes.{IsShape};
 ghost use Rattle.c_types.specs.Sound.{AreNumbered};
@@ -133,6 +133,7 @@ impl TypeTable {
         ensures valid { IfOk result (λ id. id.0 < length self.new.terms) }
         ensures longer { IsLonger self.old self.new }
     {
+        let _ = &self.alloc;
         if let Some(id) = self.find(own.as_slice())? {
             return Ok(id);
         }
@@ -165,6 +166,7 @@ impl TypeTable {
         ensures records { OnOk result (self.new.records ≡ self.old.records ++ head ∷ []) }
         ensures layouts { OnOk result (self.new.layouts ≡ self.old.layouts ++ None ∷ []) }
         ensures members { OnOk result (self.new.members ≡ self.old.members ++ [] ∷ []) }
+        ensures unfinished { IfOk result (λ id. IsTrue (is_open self.new.layouts (type_at self.new.terms id.0))) }
         ensures enums { OnOk result (self.new.enums ≡ self.old.enums) }
         ensures grows { OnOk result (Grows self.old.terms self.new.terms) }
         ensures err { OnErr result (self.new ≡ self.old) }

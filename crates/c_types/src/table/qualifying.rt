@@ -30,8 +30,8 @@ impl TypeTable {
     {
         let root = self.root(inner);
         let mut levels = Vec::new(self.alloc);
-        let (at, known) = self.descend(qualifiers, root, &mut levels)?;
-        let made = self.known_or_made(qualifiers, at, known)?;
+        let stop = self.descend(qualifiers, root, &mut levels)?;
+        let made = self.known_or_made(qualifiers, stop.0, stop.1)?;
         let id = self.ascend(qualifiers, root, made, levels)?;
         Ok(id)
     }

@@ -134,7 +134,9 @@ impl TypeTable {
         ensures is { record_of (type_at self.now.terms id.0) ≡ Some result }
         ensures within { result < length self.now.members }
     {
-        match self.facts.as_slice()[id.0 as usize].record_number {
+        let _ = &self.alloc;
+        let fact = self.fact(id);
+        match fact.record_number {
             None => unreachable!(),
             Some(number) => number,
         }

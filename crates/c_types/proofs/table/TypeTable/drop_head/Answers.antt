@@ -16,9 +16,9 @@ invariant_of-self c =
     let enums : c.self.inside.enums.items ≡ c.args.self.now.enums = ap (λ (t : Table). t.enums) c.self.view_is in
     let long : length c.self.inside.records.items ≡ n + 1 = rw records c.requires.records in
     let short : length (take n c.self.inside.records.items) ≡ n = omega (arith, length-take n c.self.inside.records.items, long) in
-    let open : slice_get c.self.inside.layouts.items n ≡ Some None = rw layouts c.requires.open in
+    let last : slice_get c.self.inside.layouts.items n ≡ Some None = rw layouts c.requires.open in
     let tall : length c.self.inside.layouts.items ≡ suc n = let l = i.layouts_long in omega (arith, l, long) in
-    let less = extends_less c.self.inside.layouts.items n tall open in
+    let less = extends_less c.self.inside.layouts.items n tall last in
     rw (c.truncate.ensures.items, c.truncate-2.ensures.items, c.truncate-3.ensures.items) (record {
       ordered = i.ordered;
       numbered = rw (short, terms, enums) c.requires.numbered;

@@ -11,13 +11,6 @@ set-requires c =
     let still : slice_get c.self.inside.layouts.items c.record_number-number.result ≡ Some None = rw (layouts, c.record_number-number.ensures) (open_is c.args.self.now.layouts (type_at c.args.self.now.terms c.args.id.0) c.requires.unfinished) in
     within c.self.inside.layouts.items c.record_number-number.result None still
 
-pub set-2-requires : goal.set-2-requires
-set-2-requires c =
-    let layouts : c.self.inside.layouts.items ≡ c.args.self.now.layouts = ap (λ (t : Table). t.layouts) c.self.view_is in
-    let still : slice_get c.self.inside.layouts.items c.record_number-number.result ≡ Some None = rw (layouts, c.record_number-number.ensures) (open_is c.args.self.now.layouts (type_at c.args.self.now.terms c.args.id.0) c.requires.unfinished) in
-    let l = within c.self.inside.layouts.items c.record_number-number.result None still in
-    omega (arith, l, c.self.invariant.layouts_long, c.self.invariant.members_long)
-
 pub invariant_of-self : goal.invariant_of-self
 invariant_of-self c =
     let i = c.self.invariant in

@@ -7,8 +7,8 @@ use Rattle.c_types.specs.declared.terms.Term.TheVariants as m
 use Rattle.c_types.proofs.Keeping.{at_get, key_term}
 use Rattle.c_types.proofs.table.TypeTable.known.Goals as goal
 
-pub returns-in-Some-clause-is : goal.returns-in-Some-clause-is
-returns-in-Some-clause-is c =
+pub returns-clause-is : goal.returns-clause-is
+returns-clause-is c =
     let e : c.self.inside.terms.items ≡ c.args.self.now.terms = ap (λ (t : Table). t.terms) c.self.view_is in
     let t : Term = m.Qualified c.args.qualifiers c.args.root in
     let own : c.as_slice.result.now ≡ key t = c.as_slice.ensures.value ∙ c.in_ok-own.ensures in

@@ -26,3 +26,21 @@ invariant_of-self-2 c =
       shapes = i.shapes;
       found = i.found;
     }
+
+pub invariant_of-self : goal.invariant_of-self
+invariant_of-self c =
+    let i = c.self.invariant in
+    let e = c.in_err-push_open.ensures in
+    rw (e.records_stay, e.layouts_stay, e.members_stay) (record {
+      ordered = i.ordered;
+      numbered = i.numbered;
+      as_long = i.as_long;
+      shapes_long = i.shapes_long;
+      layouts_long = i.layouts_long;
+      members_long = i.members_long;
+      members_below = i.members_below;
+      small = i.small;
+      facts = i.facts;
+      shapes = i.shapes;
+      found = i.found;
+    })

@@ -9,8 +9,8 @@ use Rattle.c_types.proofs.table.TypeTable.put_root.Goals as goal
 pub push-requires-clause-parts : goal.push-requires-clause-parts
 push-requires-clause-parts c = root_term_below c.args.self.now.terms c.args.term c.requires.roots
 
-pub root_shape-requires-clause-new : goal.root_shape-requires-clause-new
-root_shape-requires-clause-new c =
+pub root_shape-shape-requires-clause-new : goal.root_shape-shape-requires-clause-new
+root_shape-shape-requires-clause-new c =
     let none = rw c.in-None.is at c.in_ok-found.ensures.missing in
     let own : key c.args.term ≡ c.as_slice.result.now = sym (c.as_slice.ensures.value ∙ c.in_ok-own.ensures) in
     new_root c.args.self.now.terms c.args.term c.requires.roots (none c.args.term own c.requires.roots)
