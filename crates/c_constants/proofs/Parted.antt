@@ -122,7 +122,7 @@ parted q (octal (d ∷ ds) ∷ ps) s h =
     ∙ step_by q r.Escaped d (ds ++ rest) (taken None None (r.Octal 1 (next_value 8 0 d))) (begun d (octal_no_x d h.0.0.0) h.0.0.0)
     ∙ ap (λ x. bytes_from q (r.Octal 1 x) (ds ++ rest)) one
     ∙ octal_run q 1 (0 * 8 + digit_value d) ds rest h.0.0.1 (omega (arith, many)) value
-    ∙ octal_end q (1 + length ds) (value_from 8 (0 * 8 + digit_value d) ds) rest (some_left q ps) h.0.4
+    ∙ octal_end q (1 + length ds) (value_from 8 (0 * 8 + digit_value d) ds) rest (some_left q ps) (elim h.0.4 [ inl e ↦ inl (let z : 1 + length ds ≡ 3 = omega (arith, e) in z) | inr x ↦ inr x ])
     ∙ ap (λ bs. value_from 8 0 (d ∷ ds) ∷ bs) (parted q ps s h.1)
 parted q (hex ds ∷ ps) s h =
     let rest : List ℕ = put_parts q ps [] in

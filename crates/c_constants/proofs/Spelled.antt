@@ -12,7 +12,7 @@ use Rattle.c_lexer.specs.Number.{value_from, is_suffix, suffixes}
 use Rattle.c_lexer.proofs.Fronts.{take_front, prefix_len_append}
 use Rattle.c_lexer.proofs.Numbers.{Each_map}
 use Rattle.c_lexer.proofs.Tables.{table_law}
-use Rattle.c_constants.specs.Integers.{goes_on, without_suffix, is_unsigned, is_unsigned_letter, is_long_letter, length_of, length_from, is_x, base_of, value_of}
+use Rattle.c_constants.specs.Integers.{goes_on, without_suffix, is_unsigned, is_unsigned_letter, is_long_letter, length_of, length_from, longer, is_x, base_of, value_of}
 
 hex_goes_on : (b : ℕ) → is_hex b ≡ true → goes_on b ≡ true
 hex_goes_on b h = grind (arith, nat_tests)
@@ -99,4 +99,4 @@ unsigned_told (b ∷ w) s h = let no = hex_no_u b h.0 in rw no (unsigned_told w 
 
 pub length_told : (w s : List ℕ) → Each is_hex w → length_of (w ++ s) ≡ length_of s
 length_told [] s h = refl
-length_told (b ∷ w) s h = let no = hex_no_l b h.0 in rw no (length_told w s h.1)
+length_told (b ∷ w) s h = ap (λ (x : Bool). length_from (if x then longer long.Plain else long.Plain) (w ++ s)) (hex_no_l b h.0) ∙ length_told w s h.1
