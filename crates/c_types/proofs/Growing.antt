@@ -1,7 +1,7 @@
 -- A table that grows keeps what its numbers mean.
-use Rattle.std.proofs.Common.{◌≡◌, ℕ, zero, suc, ◌+◌, ◌<◌, List, [], ◌∷◌, ◌++◌, length, get_or, refl, sym, ◌∙◌, ap, arith, length-append, add-zero, subst}
+use Rattle.std.proofs.Common.{◌≡◌, ℕ, zero, suc, ◌+◌, ◌<◌, ◌≤◌, List, [], ◌∷◌, ◌++◌, take, length, get_or, refl, sym, ◌∙◌, ap, arith, length-append, add-zero, subst}
 use Rattle.std.proofs.Math.ListN.{get_or-append}
-use Rattle.std.proofs.Math.Seq.{get_or-append_seam}
+use Rattle.std.proofs.Math.Seq.{get_or-append_seam, take-length, take-append_seam}
 use Rattle.c_types.specs.declared.terms.Term.TheVariants as m
 use Rattle.c_types.specs.declared.terms.Term.{Term}
 use Rattle.c_types.specs.CTypes.{CType, CTypes, one_type}
@@ -86,6 +86,7 @@ pub grows_more : (ts : List Term) (t : Term) → Grows ts (ts ++ t ∷ [])
 unfolding type_at shown
 grows_more ts t = record {
   longer = omega (arith, length-append ts (t ∷ []));
+  front = take-append_seam ts (t ∷ []);
   same = λ i h. rw (shown_more [] ts t) (get_or-append (shown_from [] ts) (meaning (shown_from [] ts) t ∷ []) c.Void i (omega (arith, length_shown [] ts)));
 }
 
@@ -106,7 +107,13 @@ pub ordered_more : (ts : List Term) (t : Term) → AreOrdered ts → PartsBelow 
 ordered_more ts t o p = ordered_from 0 ts t o (let e : length ts ≡ 0 + length ts = omega arith in rw e at p)
 
 pub grows_self : (ts : List Term) → Grows ts ts
-grows_self ts = record { longer = omega arith; same = λ i h. refl }
+grows_self ts = record { longer = omega arith; front = take-length ts; same = λ i h. refl }
+
+take_take : {A : Type 0} (xs ys : List A) (n : ℕ) → n ≤ length xs → take (length xs) ys ≡ xs → take n ys ≡ take n xs
+take_take xs ys zero l e = refl
+take_take [] ys (suc n) l e = absurd (omega arith)
+take_take (x ∷ xs) [] (suc n) l e = cc
+take_take (x ∷ xs) (y ∷ ys) (suc n) l e = let f : y ≡ x = cc in let r : take (length xs) ys ≡ xs = cc in cc (f, take_take xs ys n (omega arith) r)
 
 pub grows_on : (a b c : List Term) → Grows a b → Grows b c → Grows a c
-grows_on a b c p q = record { longer = omega arith; same = λ i h. q.same i (omega arith) ∙ p.same i h }
+grows_on a b c p q = record { longer = omega arith; front = take_take b c (length a) p.longer q.front ∙ p.front; same = λ i h. q.same i (omega arith) ∙ p.same i h }

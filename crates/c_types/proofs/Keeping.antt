@@ -1,16 +1,18 @@
 -- What a push and a cut keep of the roots.
-use Rattle.std.proofs.Common.{◌≡◌, ◌≢◌, inl, inr, ℕ, zero, suc, ◌<◌, ◌≤◌, List, [], ◌∷◌, ◌++◌, take, drop, length, Option, Some, None, Result, Ok, Err, IfOk, IfNone, OnOk, OnErr, slice_get, get_or, refl, sym, ◌∙◌, ap, arith, subst, length-append, append_assoc, rules}
+use Rattle.std.proofs.Common.{◌≡◌, false, ◌≢◌, inl, inr, ℕ, zero, suc, ◌<◌, ◌≤◌, List, [], ◌∷◌, ◌++◌, take, drop, length, Option, Some, None, Result, Ok, Err, IfOk, IfNone, OnOk, OnErr, slice_get, get_or, refl, sym, ◌∙◌, ap, arith, subst, length-append, append_assoc, rules}
 use Rattle.std.proofs.lemmas.List.{take-append-drop, length-take}
 use Rattle.std.proofs.Math.Seq.{take-length, take-append_seam}
 use Rattle.tok_base.specs.declared.list.NoMemory.{NoMemory}
 use Rattle.c_types.specs.CTypes.{CType}
 use Rattle.c_types.specs.Canonical.{canonical}
 use Rattle.c_types.specs.Keys.{key}
-use Rattle.c_types.specs.Roots.{IsRoot, IsCanonical, IsRootTerm, AreParameters, AreCanonical, AreFound, IsFresh}
+use Rattle.c_types.specs.Roots.{IsRoot, IsCanonical, IsRootTerm, AreParameters, AreFound, IsFresh}
 use Rattle.c_types.specs.Sameness.{IsFirst}
 use Rattle.c_types.specs.Table.{Table, type_at, types_at, term_type, Grows, IsLonger, PartsBelow, AllBelow, AreOrdered, AreOrderedFrom}
+use Rattle.c_types.specs.Shapes.{AreShapes}
 use Rattle.c_types.specs.declared.facts.Facts.{Facts}
-use Rattle.c_types.specs.declared.records.Body.{Body}
+use Rattle.c_types.specs.declared.facts.Shape.{Shape}
+use Rattle.c_types.specs.declared.records.Layout.{Layout}
 use Rattle.c_types.specs.declared.terms.Term.{Term}
 use Rattle.c_types.specs.declared.terms.TypeId.{TypeId}
 use Rattle.c_types.specs.declared.terms.Term.TheVariants as m
@@ -167,12 +169,14 @@ term_up a b (m.Qualified q t) g l = cc (g.same t.0 l)
 
 -- a type that is no root before is one behind
 
-pub missing : (ts : List Term) (roots : List TypeId) (find : List ℕ → Option ℕ) (t : Term) → AreOrdered ts → length roots ≡ length ts → AreCanonical ts roots → AreFound ts find
+pub missing : (ts : List Term) (shapes : List Shape) (find : List ℕ → Option ℕ) (t : Term) → AreOrdered ts → length shapes ≡ length ts → AreShapes ts shapes → AreFound ts find
     → IsFresh ts t → IsRootTerm ts t → (j : ℕ) → j < length ts → type_at ts j ≢ term_type ts t
-missing ts roots find t o long canonicals found fresh x j l e =
+missing ts shapes find t o long are found fresh x j l e =
     let d : TypeId = record { 0 = 0 } in
-    let r : TypeId = get_or roots j d in
-    let c : IsCanonical ts j r.0 = canonicals j r (present roots j d (omega arith)) in
+    let n : Shape = record { root = d; ints = d; plain = d; qualifiers = 0; spelled = record { length = 0; takes_space = false } } in
+    let s : Shape = get_or shapes j n in
+    let r : TypeId = s.root in
+    let c : IsCanonical ts j r.0 = (are j s (present shapes j n (omega arith))).root in
     let u : Term = get_or ts r.0 t in
     let at : slice_get ts r.0 ≡ Some u = present ts r.0 t c.root.first.below in
     let type_is : type_at ts r.0 ≡ term_type ts t = c.is ∙ ap canonical e ∙ root_fixed ts t x in
@@ -209,12 +213,6 @@ behind ts t r x e = record {
   is = (grows_more ts t).same r x.first.below ∙ e ∙ ap canonical (sym (at_more ts t));
   root = root_up ts (ts ++ t ∷ []) r (grows_more ts t) x;
 }
-
-pub canonical_push : (ts : List Term) (roots : List TypeId) (t : Term) (r : TypeId) → length roots ≡ length ts → AreCanonical ts roots → IsCanonical (ts ++ t ∷ []) (length ts) r.0 → AreCanonical (ts ++ t ∷ []) (roots ++ r ∷ [])
-canonical_push ts roots t r long all new i s e = elim (get_more roots r s i e) [
-  | inl p ↦ let below : i < length ts = omega (arith, p.0, long) in canonical_up ts (ts ++ t ∷ []) i s.0 (grows_more ts t) below (all i s p.1)
-  | inr p ↦ let at : i ≡ length ts = p.0 ∙ long in rw at (subst (λ (x : TypeId). IsCanonical (ts ++ t ∷ []) (length ts) x.0) p.1 new)
-]
 
 pub found_push : (ts : List Term) (find more : List ℕ → Option ℕ) (t : Term) → AreFound ts find → more (key t) ≡ Some (length ts) → ((other : List ℕ) → other ≢ key t → more other ≡ find other)
     → IsFresh ts t → (IsRoot (ts ++ t ∷ []) (length ts) → IsRootTerm ts t) → AreFound (ts ++ t ∷ []) more
@@ -283,7 +281,7 @@ grows_append xs (y ∷ ys) = let e : xs ++ y ∷ ys ≡ (xs ++ y ∷ []) ++ ys =
 pub grows_take : (n : ℕ) (ts : List Term) → Grows (take n ts) ts
 grows_take n ts = subst (λ (xs : List Term). Grows (take n ts) xs) (take-append-drop n ts) (grows_append (take n ts) (drop n ts))
 
-get_take : {A : Type 0} (n : ℕ) (xs : List A) (i : ℕ) (x : A) → slice_get (take n xs) i ≡ Some x → slice_get xs i ≡ Some x
+pub get_take : {A : Type 0} (n : ℕ) (xs : List A) (i : ℕ) (x : A) → slice_get (take n xs) i ≡ Some x → slice_get xs i ≡ Some x
 get_take zero xs i x e = cc
 get_take (suc n) [] i x e = cc
 get_take (suc n) (y ∷ ys) zero x e = e
@@ -300,16 +298,11 @@ cut_ordered n ts o = cut_from 0 n ts o
 pub cut_long : {A B : Type 0} (n : ℕ) (xs : List A) (ys : List B) → length xs ≡ length ys → length (take n xs) ≡ length (take n ys)
 cut_long n xs ys e = omega (arith, length-take n xs, length-take n ys)
 
-pub cut_facts : (bodies : List (Option Body)) (n : ℕ) (ts : List Term) (facts : List Facts) → length facts ≡ length ts → AreFacts bodies ts facts → AreFacts bodies (take n ts) (take n facts)
+pub cut_facts : (bodies : List (Option Layout)) (n : ℕ) (ts : List Term) (facts : List Facts) → length facts ≡ length ts → AreFacts bodies ts facts → AreFacts bodies (take n ts) (take n facts)
 cut_facts bodies n ts facts long all i f e =
     let below : i < length (take n ts) = let l = within (take n facts) i f e in omega (arith, cut_long n facts ts long) in
     let same : type_at (take n ts) i ≡ type_at ts i = sym ((grows_take n ts).same i below) in
     rw same (all i f (get_take n facts i f e))
-
-pub cut_canonical : (n : ℕ) (ts : List Term) (roots : List TypeId) → length roots ≡ length ts → AreCanonical ts roots → AreCanonical (take n ts) (take n roots)
-cut_canonical n ts roots long all i r e =
-    let below : i < length (take n ts) = let l = within (take n roots) i r e in omega (arith, cut_long n roots ts long) in
-    canonical_down (take n ts) ts i r.0 (grows_take n ts) below (all i r (get_take n roots i r e))
 
 pub cut_found : (n : ℕ) (ts : List Term) (find : List ℕ → Option ℕ) → AreOrdered ts → AreFound ts find → AreFound (take n ts) find
 cut_found n ts find o all r t e x =
@@ -321,28 +314,22 @@ cut_found n ts find o all r t e x =
 -- tables with more terms
 
 pub longer_self : (a : Table) → IsLonger a a
-longer_self a = record { grows = grows_self a.terms; front = take-length a.terms; records = refl; bodies = refl; enums = refl }
-
-take_take : {A : Type 0} (xs ys : List A) (n : ℕ) → n ≤ length xs → take (length xs) ys ≡ xs → take n ys ≡ take n xs
-take_take xs ys zero l e = refl
-take_take [] ys (suc n) l e = absurd (omega arith)
-take_take (x ∷ xs) [] (suc n) l e = cc
-take_take (x ∷ xs) (y ∷ ys) (suc n) l e = let f : y ≡ x = cc in let r : take (length xs) ys ≡ xs = cc in cc (f, take_take xs ys n (omega arith) r)
+longer_self a = record { grows = grows_self a.terms; records = refl; layouts = refl; members = refl; enums = refl }
 
 pub longer_on : (a b d : Table) → IsLonger a b → IsLonger b d → IsLonger a d
 longer_on a b d x y = record {
   grows = grows_on a.terms b.terms d.terms x.grows y.grows;
-  front = take_take b.terms d.terms (length a.terms) x.grows.longer y.front ∙ x.front;
   records = y.records ∙ x.records;
-  bodies = y.bodies ∙ x.bodies;
+  layouts = y.layouts ∙ x.layouts;
+  members = y.members ∙ x.members;
   enums = y.enums ∙ x.enums;
 }
 
 pub longer_push : (old new : Table) (t : Term) → new ≡ record old { terms = old.terms ++ t ∷ [] } → IsLonger old new
-longer_push old new t e = rw e (record { grows = grows_more old.terms t; front = take-append_seam old.terms (t ∷ []); records = refl; bodies = refl; enums = refl })
+longer_push old new t e = rw e (record { grows = grows_more old.terms t; records = refl; layouts = refl; members = refl; enums = refl })
 
 pub cut_back : (old new : Table) → IsLonger old new → record new { terms = take (length old.terms) new.terms } ≡ old
-cut_back old new l = rw (l.front, l.records, l.bodies, l.enums) refl
+cut_back old new l = rw (l.grows.front, l.records, l.layouts, l.members, l.enums) refl
 
 -- what a push says
 

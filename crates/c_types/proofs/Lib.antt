@@ -1,9 +1,12 @@
+pub mod Comparing
 pub mod Finding
 pub mod Growing
 pub mod Keeping
 pub mod Knowing
 pub mod Laying
+pub mod Naming
 pub mod Piecing
 pub mod Qualifying
 pub mod Rooting
+pub mod Shaping
 pub mod Sounding

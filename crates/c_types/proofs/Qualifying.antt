@@ -6,15 +6,17 @@ use Rattle.std.proofs.lemmas.Nat.{le_or_r}
 use Rattle.c_types.specs.CTypes.{CType, CTypes, no_types, one_type, record_of, is_flexible, Void, Int, Enum, Pointer, Array, Flexible, Function, Record, Named, Qualified}
 use Rattle.c_types.specs.Arrays.{is_array, element, with_element, IsPath, IsRaised}
 use Rattle.c_types.specs.Canonical.{canonical, canonical_parameters, qualify, unqualified, with_qualifiers}
+use Rattle.c_types.specs.Consts.{is_const, record_held}
 use Rattle.c_types.specs.Facts.{IsFact}
 use Rattle.c_types.specs.Layout.{size, align}
 use Rattle.c_types.specs.Pointers.{contains_pointer}
-use Rattle.c_types.specs.Roots.{IsRoot, AreParameters}
+use Rattle.c_types.specs.Roots.{IsRoot, AreRoots, AreParameters}
 use Rattle.c_types.specs.Table.{type_at, types_at, AllBelow, Grows}
 use Rattle.c_types.specs.declared.facts.Facts.{Facts}
-use Rattle.c_types.specs.declared.records.Body.{Body}
+use Rattle.c_types.specs.declared.records.Layout.{Layout}
 use Rattle.c_types.specs.declared.terms.Term.{Term}
 use Rattle.c_types.specs.declared.terms.TypeId.{TypeId}
+use Rattle.c_types.proofs.Keeping.{root_up}
 
 -- a function that does not see qualifiers sees none of those that an array's elements get
 module _ {A : Type 0} (f : CType → A) (seen : (q : ℕ) (t : CType) → f (Qualified q t) ≡ f t) (array : (t u : CType) (n : ℕ) → f t ≡ f u → f (Array t n) ≡ f (Array u n)) (flexible : (t u : CType) → f t ≡ f u → f (Flexible t) ≡ f (Flexible u)) where
@@ -37,13 +39,13 @@ module _ {A : Type 0} (f : CType → A) (seen : (q : ℕ) (t : CType) → f (Qua
   qualify_same q (Record k) = with_same q (Record k)
   qualify_same q (Named n t) = with_same q (Named n t)
 
-size_qualify : (rs : List (Option Body)) (q : ℕ) (t : CType) → size rs (qualify q t) ≡ size rs t
+size_qualify : (rs : List (Option Layout)) (q : ℕ) (t : CType) → size rs (qualify q t) ≡ size rs t
 size_qualify rs = qualify_same (size rs) (λ q t. refl) (λ t u n e. ap (option_map (λ s. n * s)) e) (λ t u e. refl)
 
-align_qualify : (rs : List (Option Body)) (q : ℕ) (t : CType) → align rs (qualify q t) ≡ align rs t
+align_qualify : (rs : List (Option Layout)) (q : ℕ) (t : CType) → align rs (qualify q t) ≡ align rs t
 align_qualify rs = qualify_same (align rs) (λ q t. refl) (λ t u n e. e) (λ t u e. e)
 
-pointer_qualify : (rs : List (Option Body)) (q : ℕ) (t : CType) → contains_pointer rs (qualify q t) ≡ contains_pointer rs t
+pointer_qualify : (rs : List (Option Layout)) (q : ℕ) (t : CType) → contains_pointer rs (qualify q t) ≡ contains_pointer rs t
 pointer_qualify rs = qualify_same (contains_pointer rs) (λ q t. refl) (λ t u n e. e) (λ t u e. e)
 
 record_qualify : (q : ℕ) (t : CType) → record_of (qualify q t) ≡ record_of t
@@ -52,17 +54,23 @@ record_qualify = qualify_same record_of (λ q t. refl) (λ t u n e. refl) (λ t 
 flexible_qualify : (q : ℕ) (t : CType) → is_flexible (qualify q t) ≡ is_flexible t
 flexible_qualify = qualify_same is_flexible (λ q t. refl) (λ t u n e. refl) (λ t u e. refl)
 
--- the facts of a type are those of the qualified one
-pub fact_qualify : (rs : List (Option Body)) (q : ℕ) (t : CType) (f : Facts) → IsFact rs t f → IsFact rs (qualify q t) f
-fact_qualify rs q t f i = record {
+held_qualify : (q : ℕ) (t : CType) → record_held (qualify q t) ≡ record_held t
+held_qualify = qualify_same record_held (λ q t. refl) (λ t u n e. e) (λ t u e. e)
+
+-- the facts of a type are those of the qualified one, const aside
+pub fact_qualify : (rs : List (Option Layout)) (q : ℕ) (t : CType) (f g : Facts) → IsFact rs t f → g.is_const ≡ is_const (qualify q t) → IsFact rs (qualify q t) (record f { is_const = g.is_const })
+fact_qualify rs q t f g i e = record {
   record_is = i.record_is ∙ sym (record_qualify q t);
   flexible_is = i.flexible_is ∙ sym (flexible_qualify q t);
   size_is = λ later x. size_qualify later q t ∙ i.size_is later x;
   align_is = λ later x. align_qualify later q t ∙ i.align_is later x;
   pointer_is = λ later x. pointer_qualify later q t ∙ i.pointer_is later x;
+  const_is = e;
+  held_is = i.held_is ∙ sym (held_qualify q t);
+  small = i.small;
 }
 
-pub size_canonical : (rs : List (Option Body)) (t : CType) → size rs (canonical t) ≡ size rs t
+pub size_canonical : (rs : List (Option Layout)) (t : CType) → size rs (canonical t) ≡ size rs t
 size_canonical rs Void = refl
 size_canonical rs (Int k) = refl
 size_canonical rs (Enum e) = refl
@@ -89,8 +97,23 @@ raised q (Qualified p t) a = cc
 pub raised_is : (q : ℕ) (t u : CType) → is_array t ≡ true → u ≡ qualify q (element t) → with_element t u ≡ qualify q t
 raised_is q t u a e = ap (with_element t) e ∙ raised q t a
 
-pub fact_raised : (rs : List (Option Body)) (q : ℕ) (t u : CType) → is_array t ≡ true → u ≡ qualify q (element t) → (f : Facts) → IsFact rs t f → IsFact rs (with_element t u) f
-fact_raised rs q t u a e f i = let is : with_element t u ≡ qualify q t = raised_is q t u a e in rw is (fact_qualify rs q t f i)
+const_raised : (t u : CType) → is_array t ≡ true → is_const (with_element t u) ≡ is_const u
+const_raised (Array t n) u a = refl
+const_raised (Flexible t) u a = refl
+const_raised Void u a = cc
+const_raised (Int k) u a = cc
+const_raised (Enum e) u a = cc
+const_raised (Pointer t) u a = cc
+const_raised (Function r ps) u a = cc
+const_raised (Record k) u a = cc
+const_raised (Named n t) u a = cc
+const_raised (Qualified p t) u a = cc
+
+pub fact_raised : (rs : List (Option Layout)) (q : ℕ) (t u : CType) (f g h : Facts) → is_array t ≡ true → u ≡ qualify q (element t) → IsFact rs t f → IsFact rs u g → h ≡ record f { is_const = g.is_const } → IsFact rs (with_element t u) h
+fact_raised rs q t u f g h a e i j k =
+    let is : with_element t u ≡ qualify q t = raised_is q t u a e in
+    let known : g.is_const ≡ is_const (qualify q t) = j.const_is ∙ sym (const_raised t u a) ∙ ap is_const is in
+    rw (k, is) (fact_qualify rs q t f g i known)
 
 -- down one array more
 pub path_more : (ts : List Term) (t : CType) (ls : List TypeId) (l : TypeId) (a b : CType) → IsPath ts t ls a → type_at ts l.0 ≡ a → is_array a ≡ true → b ≡ element a → IsPath ts t (ls ++ l ∷ []) b
@@ -109,6 +132,22 @@ raised_last ts q t (x ∷ ls) l b r = raised_last ts q (element t) ls l b r.2
 pub raised_up : (ts : List Term) (q : ℕ) (t : CType) (ls : List TypeId) (l : TypeId) (b d : CType) → IsRaised ts q t (ls ++ l ∷ []) b → d ≡ qualify q (type_at ts l.0) → IsRaised ts q t ls d
 raised_up ts q t [] l b d r e = e ∙ ap (qualify q) r.0
 raised_up ts q t (x ∷ ls) l b d r e = (r.0, r.1, raised_up ts q (element t) ls l b d r.2 e)
+
+pub all_roots_more : (ts : List Term) (ls : List TypeId) (l : TypeId) → AreRoots ts ls → IsRoot ts l.0 → AreRoots ts (ls ++ l ∷ [])
+all_roots_more ts [] l a b = (b, tt)
+all_roots_more ts (x ∷ ls) l a b = (a.0, all_roots_more ts ls l a.1 b)
+
+pub all_roots_front : (ts : List Term) (ls : List TypeId) (l : TypeId) → AreRoots ts (ls ++ l ∷ []) → AreRoots ts ls × IsRoot ts l.0
+all_roots_front ts [] l a = (tt, a.0)
+all_roots_front ts (x ∷ ls) l a = let r = all_roots_front ts ls l a.1 in ((a.0, r.0), r.1)
+
+pub all_roots_up : (ts us : List Term) (ls : List TypeId) → Grows ts us → AreRoots ts ls → AreRoots us ls
+all_roots_up ts us [] g a = tt
+all_roots_up ts us (x ∷ ls) g a = (root_up ts us x.0 g a.0, all_roots_up ts us ls g a.1)
+
+pub roots_below : (ts : List Term) (ls : List TypeId) → AreRoots ts ls → AllBelow (length ts) ls
+roots_below ts [] a = tt
+roots_below ts (x ∷ ls) a = (a.0.first.below, roots_below ts ls a.1)
 
 pub all_below_more : (n : ℕ) (ls : List TypeId) (l : TypeId) → AllBelow n ls → l.0 < n → AllBelow n (ls ++ l ∷ [])
 all_below_more n [] l a b = (b, tt)

@@ -110,10 +110,10 @@ numbers_tell (p ∷ ps) (q ∷ qs) e =
     let rest : map (λ (p : TypeId). p.0) ps ≡ map (λ (p : TypeId). p.0) qs = cc in
     cc (ap (λ (n : ℕ). let i : TypeId = record { 0 = n } in i) front, numbers_tell ps qs rest)
 
-kind_of : ℕ → IntKind
+pub kind_of : ℕ → IntKind
 kind_of n = if n == 0 then k.Bool else if n == 1 then k.Char else if n == 2 then k.SChar else if n == 3 then k.UChar else if n == 4 then k.Short else if n == 5 then k.UShort else if n == 6 then k.Int else if n == 7 then k.UInt else if n == 8 then k.Long else if n == 9 then k.ULong else if n == 10 then k.LongLong else k.ULongLong
 
-kind_back : (kind : IntKind) → kind_of (kind_number kind) ≡ kind
+pub kind_back : (kind : IntKind) → kind_of (kind_number kind) ≡ kind
 unfolding kind_of
 kind_back k.Bool = refl
 kind_back k.Char = refl

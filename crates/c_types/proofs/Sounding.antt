@@ -1,19 +1,20 @@
 -- What keeps a table sound.
 use Rattle.std.proofs.Common.{◌≡◌, ◌⊎◌, inl, inr, ℕ, zero, suc, ◌<◌, List, [], ◌∷◌, ◌++◌, length, Option, Some, None, Result, Ok, Err, slice_get, slice_set, refl, ◌∙◌, ap, arith, subst, true, OnOk, OnErr, IfOk, length-append}
-use Rattle.std.specs.Option.{option_map}
 use Rattle.std.specs.Prelude.{option_and_then}
 use Rattle.c_types.specs.CTypes as c
 use Rattle.c_types.specs.CTypes.{CType}
+use Rattle.std.specs.Prelude.{is_some}
 use Rattle.c_types.specs.Layout.{layout_at}
+use Rattle.c_types.specs.Records.{finished_by}
 use Rattle.c_types.specs.Table.{Table, type_at, term_type, Grows}
 use Rattle.c_types.specs.Facts.{Extends, IsFact}
 use Rattle.c_types.specs.declared.facts.Facts.{Facts}
-use Rattle.c_types.specs.declared.records.Body.{Body}
 use Rattle.c_types.specs.declared.records.Layout.{Layout}
 use Rattle.c_types.specs.declared.terms.Term.{Term}
 use Rattle.c_types.specs.declared.terms.TypeId.{TypeId}
 use Rattle.c_types.specs.declared.terms.TypeEnd.{TypeEnd}
-use Rattle.c_types.specs.Table.{AreOrdered, PartsBelow, is_open, is_open_slot, number_of}
+use Rattle.c_types.specs.Table.{AreOrdered, PartsBelow, number_of}
+use Rattle.c_types.specs.Records.{is_open, is_open_slot}
 use Rattle.c_types.proofs.Growing.{grows_more, at_more, grows_self, ordered_more}
 use Rattle.c_types.proofs.Knowing.{fact_on}
 
@@ -23,21 +24,21 @@ get_more [] x y (suc i) e = cc
 get_more (z ∷ xs) x y zero e = inl (omega arith, e)
 get_more (z ∷ xs) x y (suc i) e = elim (get_more xs x y i e) [ inl p ↦ inl (omega (arith, p.0), p.1) | inr p ↦ inr (ap suc p.0, p.1) ]
 
-last_is : {A : Type 0} (xs : List A) (x : A) → slice_get (xs ++ x ∷ []) (length xs) ≡ Some x
+pub last_is : {A : Type 0} (xs : List A) (x : A) → slice_get (xs ++ x ∷ []) (length xs) ≡ Some x
 last_is [] x = refl
 last_is (y ∷ ys) x = last_is ys x
 
 -- the facts of the types by number
-abbrev pub AreFacts : List (Option Body) → List Term → List Facts → Type 0
+abbrev pub AreFacts : List (Option Layout) → List Term → List Facts → Type 0
 AreFacts bodies terms facts = (i : ℕ) (f : Facts) → slice_get facts i ≡ Some f → IsFact bodies (type_at terms i) f
 
-pub facts_more : (bodies : List (Option Body)) (terms : List Term) (facts : List Facts) (t : Term) (g : Facts) → length facts ≡ length terms → AreFacts bodies terms facts → IsFact bodies (term_type terms t) g → AreFacts bodies (terms ++ t ∷ []) (facts ++ g ∷ [])
+pub facts_more : (bodies : List (Option Layout)) (terms : List Term) (facts : List Facts) (t : Term) (g : Facts) → length facts ≡ length terms → AreFacts bodies terms facts → IsFact bodies (term_type terms t) g → AreFacts bodies (terms ++ t ∷ []) (facts ++ g ∷ [])
 facts_more bodies terms facts t g len all h i f e = elim (get_more facts g f i e) [
   | inl p ↦ let below : i < length terms = omega (arith, p.0, len) in rw ((grows_more terms t).same i below) (all i f p.1)
   | inr p ↦ let at : i ≡ length terms = p.0 ∙ len in rw (at, at_more terms t) (subst (λ (x : Facts). IsFact bodies (term_type terms t) x) p.1 h)
 ]
 
-pub facts_on : (a b : List (Option Body)) (terms : List Term) (facts : List Facts) → Extends a b → AreFacts a terms facts → AreFacts b terms facts
+pub facts_on : (a b : List (Option Layout)) (terms : List Term) (facts : List Facts) → Extends a b → AreFacts a terms facts → AreFacts b terms facts
 facts_on a b terms facts x all i f e = fact_on a b (type_at terms i) f x (all i f e)
 
 get_front : {A : Type 0} (xs ys : List A) (y : A) (i : ℕ) → slice_get xs i ≡ Some y → slice_get (xs ++ ys) i ≡ Some y
@@ -45,22 +46,22 @@ get_front [] ys y i e = cc
 get_front (x ∷ xs) ys y zero e = e
 get_front (x ∷ xs) ys y (suc i) e = get_front xs ys y i e
 
-get_some : (a b : Option (Option Body)) (l : Layout) → ((y : Option Body) → a ≡ Some y → b ≡ Some y) → option_and_then (λ (o : Option Body). option_map (λ b. b.layout) o) a ≡ Some l → option_and_then (λ (o : Option Body). option_map (λ b. b.layout) o) b ≡ Some l
+get_some : (a b : Option (Option Layout)) (l : Layout) → ((y : Option Layout) → a ≡ Some y → b ≡ Some y) → option_and_then (λ (o : Option Layout). o) a ≡ Some l → option_and_then (λ (o : Option Layout). o) b ≡ Some l
 get_some (Some y) b l h e = rw (h y refl) e
 get_some None b l h e = cc
 
-pub extends_more : (bodies : List (Option Body)) (b : Option Body) → Extends bodies (bodies ++ b ∷ [])
+pub extends_more : (bodies : List (Option Layout)) (b : Option Layout) → Extends bodies (bodies ++ b ∷ [])
 extends_more bodies b = record { keeps = λ k l e. get_some (slice_get bodies k) (slice_get (bodies ++ b ∷ []) k) l (λ y g. get_front bodies (b ∷ []) y k g) e }
 
 -- a record that was unfinished is finished
-set_apart : (bodies : List (Option Body)) (n k : ℕ) (b : Option Body) (l : Layout) → slice_get bodies n ≡ Some None → layout_at bodies k ≡ Some l → layout_at (slice_set bodies n b) k ≡ Some l
+set_apart : (bodies : List (Option Layout)) (n k : ℕ) (b : Option Layout) (l : Layout) → slice_get bodies n ≡ Some None → layout_at bodies k ≡ Some l → layout_at (slice_set bodies n b) k ≡ Some l
 set_apart [] n k b l u e = cc
 set_apart (x ∷ xs) zero zero b l u e = let f : x ≡ None = cc in let g = rw f at e in cc
 set_apart (x ∷ xs) zero (suc k) b l u e = e
 set_apart (x ∷ xs) (suc n) zero b l u e = e
 set_apart (x ∷ xs) (suc n) (suc k) b l u e = set_apart xs n k b l u e
 
-pub extends_set : (bodies : List (Option Body)) (n : ℕ) (b : Option Body) → slice_get bodies n ≡ Some None → Extends bodies (slice_set bodies n b)
+pub extends_set : (bodies : List (Option Layout)) (n : ℕ) (b : Option Layout) → slice_get bodies n ≡ Some None → Extends bodies (slice_set bodies n b)
 extends_set bodies n b u = record { keeps = λ k l e. set_apart bodies n k b l u e }
 
 -- what a push says of the table's numbers
@@ -73,7 +74,7 @@ is_by old new t (Ok id) n e = let g : new.terms ≡ old.terms ++ t ∷ [] = ap (
 is_by old new t (Err x) n e = tt
 
 -- a type more, with its facts, over the same bodies
-pub sound_more : (bodies : List (Option Body)) (terms terms' : List Term) (facts facts' : List Facts) (t : Term) (g : Facts) → AreOrdered terms → length facts ≡ length terms → AreFacts bodies terms facts
+pub sound_more : (bodies : List (Option Layout)) (terms terms' : List Term) (facts facts' : List Facts) (t : Term) (g : Facts) → AreOrdered terms → length facts ≡ length terms → AreFacts bodies terms facts
     → PartsBelow (length terms) t → IsFact bodies (term_type terms t) g → terms' ≡ terms ++ t ∷ [] → facts' ≡ facts ++ g ∷ []
     → AreOrdered terms' × (length facts' ≡ length terms') × AreFacts bodies terms' facts'
 sound_more bodies terms terms' facts facts' t g o len all p h e f =
@@ -94,13 +95,13 @@ length_set [] i y = refl
 length_set (x ∷ xs) zero y = refl
 length_set (x ∷ xs) (suc i) y = ap suc (length_set xs i y)
 
-open_slot : (o : Option (Option Body)) → is_open_slot o ≡ true → o ≡ Some None
+open_slot : (o : Option (Option Layout)) → is_open_slot o ≡ true → o ≡ Some None
 open_slot None e = cc
 open_slot (Some None) e = refl
 open_slot (Some (Some b)) e = cc
 
 -- an unfinished record has a slot without a body
-pub open_is : (bodies : List (Option Body)) (t : CType) → is_open bodies t ≡ true → slice_get bodies (number_of t) ≡ Some None
+pub open_is : (bodies : List (Option Layout)) (t : CType) → is_open bodies t ≡ true → slice_get bodies (number_of t) ≡ Some None
 open_is bodies (c.Record k) e = open_slot (slice_get bodies k) e
 open_is bodies c.Void e = cc
 open_is bodies (c.Int kind) e = cc
@@ -116,3 +117,15 @@ pub within : {A : Type 0} (xs : List A) (i : ℕ) (x : A) → slice_get xs i ≡
 within [] i x e = cc
 within (y ∷ ys) zero x e = omega arith
 within (y ∷ ys) (suc i) x e = let h = within ys i x e in omega arith
+
+-- a finished record has its place among the members
+finished_at : (ls : List (Option Layout)) (k : ℕ) → is_some (layout_at ls k) ≡ true → k < length ls
+finished_at [] k e = cc
+finished_at (x ∷ ls) zero e = omega arith
+finished_at (x ∷ ls) (suc k) e = let h = finished_at ls k e in omega arith
+
+pub finished_within : (ls : List (Option Layout)) (r : Option ℕ) (k n : ℕ) → finished_by ls r ≡ true → r ≡ Some k → n ≡ length ls → k < n
+finished_within ls r k n e s l = let f : is_some (layout_at ls k) ≡ true = rw s at e in rw l (finished_at ls k f)
+
+pub finished_some : (ls : List (Option Layout)) (r : Option ℕ) → finished_by ls r ≡ true → r ≡ None → ⊥
+finished_some ls r e n = let f : finished_by ls None ≡ true = rw n at e in cc

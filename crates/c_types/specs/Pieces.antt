@@ -3,6 +3,7 @@ use Rattle.std.specs.Prelude.{◌≡◌, ℕ, zero, suc, ◌+◌, ◌<◌, Bool,
 use Rattle.std.specs.Option.{option_map}
 use Rattle.c_types.specs.CTypes.{CType, CTypes, Void, Int, Enum, Pointer, Array, Flexible, Function, Record, Named, Qualified, no_types, one_type}
 use Rattle.c_types.specs.Spelling.{Names, stripped, int_name, decimal, base_qualifiers, pointer_qualifiers, is_suffixed, spelled_parameters, spelled_more}
+use Rattle.c_types.specs.Plain.{parameters_of}
 use Rattle.c_types.specs.Table.{Table, type_at}
 use Rattle.c_types.specs.declared.pieces.Inside.{Inside}
 use Rattle.c_types.specs.declared.pieces.Inside.TheVariants as i
@@ -85,18 +86,6 @@ behind names (Function r ps) = (40 ∷ spelled_parameters names ps) ++ (41 ∷ b
 behind names (Named s t) = behind names t
 behind names (Qualified p t) = behind names t
 
-abbrev pub parameters : CType → CTypes
-parameters (Function r ps) = ps
-parameters Void = no_types
-parameters (Int kind) = no_types
-parameters (Enum e) = no_types
-parameters (Record k) = no_types
-parameters (Pointer t) = no_types
-parameters (Array t n) = no_types
-parameters (Flexible t) = no_types
-parameters (Named s t) = no_types
-parameters (Qualified p t) = no_types
-
 abbrev pub without : ℕ → CTypes → CTypes
 without zero ps = ps
 without (suc n) no_types = no_types
@@ -108,8 +97,8 @@ piece_text ts names (p.Outer t n) = before names 0 (stripped (type_at ts t.0)) n
 piece_text ts names (p.Before q t n) = before names q (type_at ts t.0) n
 piece_text ts names (p.Star q n enclosed) = star_text q n enclosed
 piece_text ts names (p.Behind t) = behind names (type_at ts t.0)
-piece_text ts names (p.Parameters t) = spelled_parameters names (parameters (type_at ts t.0))
-piece_text ts names (p.More t k) = spelled_more names (without k (parameters (type_at ts t.0)))
+piece_text ts names (p.Parameters t) = spelled_parameters names (parameters_of (type_at ts t.0))
+piece_text ts names (p.More t k) = spelled_more names (without k (parameters_of (type_at ts t.0)))
 piece_text ts names p.Close = 41 ∷ []
 
 -- the text of pieces, of which the last is written first
@@ -152,8 +141,8 @@ piece_work ts (p.Outer t n) = before_work (type_at ts t.0) + 1
 piece_work ts (p.Before q t n) = before_work (type_at ts t.0)
 piece_work ts (p.Star q n enclosed) = 1
 piece_work ts (p.Behind t) = behind_work (type_at ts t.0)
-piece_work ts (p.Parameters t) = parameters_work (parameters (type_at ts t.0))
-piece_work ts (p.More t k) = parameters_work (without k (parameters (type_at ts t.0)))
+piece_work ts (p.Parameters t) = parameters_work (parameters_of (type_at ts t.0))
+piece_work ts (p.More t k) = parameters_work (without k (parameters_of (type_at ts t.0)))
 piece_work ts p.Close = 1
 
 abbrev pub work : List Term → List Piece → ℕ

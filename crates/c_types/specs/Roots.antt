@@ -39,6 +39,10 @@ abbrev pub AreParameters : List Term → List TypeId → Type 0
 AreParameters ts [] = Unit {0}
 AreParameters ts (p ∷ ps) = IsRoot ts p.0 × (unqualified (type_at ts p.0) ≡ type_at ts p.0) × AreParameters ts ps
 
+abbrev pub AreRoots : List Term → List TypeId → Type 0
+AreRoots ts [] = Unit {0}
+AreRoots ts (p ∷ ps) = IsRoot ts p.0 × AreRoots ts ps
+
 -- a term whose parts are roots, so that its type is canonical
 abbrev pub IsRootTerm : List Term → Term → Type 0
 IsRootTerm ts m.Void = Unit {0}
@@ -51,10 +55,6 @@ IsRootTerm ts (m.Function t ps) = IsRoot ts t.0 × AreParameters ts ps
 IsRootTerm ts (m.Record k) = Unit {0}
 IsRootTerm ts (m.Named n t) = ⊥
 IsRootTerm ts (m.Qualified q t) = IsRoot ts t.0 × (q ≢ 0) × (is_bare (type_at ts t.0) ≡ true)
-
--- the canonical numbers of all types
-abbrev pub AreCanonical : List Term → List TypeId → Type 0
-AreCanonical ts roots = (i : ℕ) (r : TypeId) → slice_get roots i ≡ Some r → IsCanonical ts i r.0
 
 -- each root has a term of roots, and is found by its key
 abbrev pub AreFound : List Term → (List ℕ → Option ℕ) → Type 0

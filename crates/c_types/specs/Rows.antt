@@ -5,7 +5,7 @@ use Rattle.c_types.specs.CTypes.{CType, Void, Int, Enum, Pointer, Array, Flexibl
 use Rattle.c_types.specs.Layout.{size, record_size, offsets}
 use Rattle.c_types.specs.Pointers.{contains_pointer}
 use Rattle.c_types.specs.Spelling.{Names, spelling}
-use Rattle.c_types.specs.Table.{refusal}
+use Rattle.c_types.specs.Records.{refusal}
 use Rattle.c_types.specs.declared.terms.TypeEnd.TheVariants as end
 
 abbrev pub nodes : Names

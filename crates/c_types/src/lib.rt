@@ -1,8 +1,9 @@
-//! Types of C: a table in which each type has a number, with the size, alignment and layout of each and
-//! whether it contains a pointer. The main call is `TypeTable::add`; `specs/` has types as trees
-//! (`CTypes`), their sizes (`Layout`), the pointer test (`Pointers`) and the table (`Table`), which the
-//! calls on `TypeTable` meet; `canonical` and `same` compare canonical types (`Canonical`, `Sameness`), and
-//! `spelling` writes a type's name (`Spelling`). No call recurses by the depth of types.
+//! Types of C: a table in which each type has a number, with all that is asked of it kept beside it. The main
+//! call is `TypeTable::add`; `specs/` has types as trees (`CTypes`), their sizes (`Layout`), the pointer test
+//! (`Pointers`), const (`Consts`), records (`Records`), what stands behind typedef names (`Plain`) and the
+//! table (`Table`), which the calls on `TypeTable` meet; `same` and `compatible` compare canonical types
+//! (`Canonical`, `Compatible`), and `spelling` writes a type's name (`Spelling`). No call recurses by the
+//! depth of types.
 #![tactic(auto)]
 
 mod facts;
@@ -14,8 +15,6 @@ mod records;
 mod rows;
 mod table;
 mod terms;
-#[cfg(test)]
-mod tests;
 
 pub use laws::same_numbers_law;
 pub use records::Member;

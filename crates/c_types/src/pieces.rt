@@ -97,7 +97,7 @@ pub fn append_base(
     append_gap(out, inside)
 }
 
-fn base_qualifiers(qualifiers: u8) -> &'static [u8]
+pub fn base_qualifiers(qualifiers: u8) -> &'static [u8]
     ensures { result.now ≡ spelling.base_qualifiers qualifiers }
 {
     let is_volatile = qualifiers & 2 != 0;
@@ -110,7 +110,7 @@ fn base_qualifiers(qualifiers: u8) -> &'static [u8]
     if is_volatile { b"volatile " } else { b"" }
 }
 
-fn pointer_qualifiers(qualifiers: u8) -> &'static [u8]
+pub fn pointer_qualifiers(qualifiers: u8) -> &'static [u8]
     ensures { result.now ≡ spelling.pointer_qualifiers qualifiers }
 {
     let is_volatile = qualifiers & 2 != 0;

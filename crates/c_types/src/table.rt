@@ -1,24 +1,31 @@
 //! The types of a unit by number.
 
 mod canonical;
+mod compatible;
+mod lengths;
 mod pushes;
+mod qualifying;
+mod questions;
 mod spelling;
 
-ghost use Rattle.std.specs.Prelude.{◌≡◌, ◌≢◌, ◌<◌, ◌≤◌, ◌^◌, max, ◌||◌, ◌&&◌, ◌↔◌, IsTrue, length, [], ◌∷◌, ◌++◌, IfOk, OnOk, OnErr, IfErr, IsSome, IfSome, option_and_then, Some, None, slice_get, unwrap_or, is_some, nat_le, false, true};
+ghost use Rattle.std.specs.Prelude.{◌≡◌, List, Option, ◌≢◌, ◌<◌, ◌≤◌, ◌^◌, max, ◌||◌, ◌&&◌, ◌↔◌, IsTrue, length, [], ◌∷◌, ◌++◌, IfOk, OnOk, OnErr, IfErr, IsSome, IfSome, option_and_then, Some, None, slice_get, unwrap_or, is_some, nat_le, false, true};
 ghost use Rattle.std.specs.Option.{option_copied, option_map};
 ghost use Rattle.c_types.specs.CTypes as c;
-ghost use Rattle.c_types.specs.CTypes.{is_flexible};
-ghost use Rattle.c_types.specs.Table.{type_at, term_type, Grows, PartsBelow, NumbersBelow, MembersBelow, is_open, is_open_slot, member_types, number_of, is_union_at, body_of, offset_at, laid_out, finished, refusal, array_refusal, record_refusal, limit};
+ghost use Rattle.c_types.specs.CTypes.{CType, is_flexible};
+ghost use Rattle.c_types.specs.Consts.{holds_const};
+ghost use Rattle.c_types.specs.Records.{is_open, is_open_slot, is_finished, is_union_at, laid_out, refusal, array_refusal, record_refusal, limit};
+ghost use Rattle.c_types.specs.Table.{type_at, term_type, Grows, PartsBelow, NumbersBelow, MembersBelow, member_types, number_of, finished};
 ghost use Rattle.c_types.specs.Layout as layout;
 ghost use Rattle.c_types.specs.Layout.{size, align, layout_at, bytes, alignment, place, reach, record_size, are_sized};
 ghost use Rattle.c_types.specs.Pointers.{contains_pointer};
 ghost use Rattle.c_types.specs.Facts.{IsFact, size_by, align_by, pointer_by};
+ghost use Rattle.c_types.specs.declared.records.Layout.{Layout};
 ghost use Rattle.c_types.specs.declared.terms.TypeEnd.TheVariants as end;
 ghost use Rattle.c_types.specs.declared.terms.Term.TheVariants as term;
 
-use crate::facts::{Facts, name_is_uintptr};
+use crate::facts::{Facts, Shape, name_is_uintptr};
 use crate::numbers::Numbers;
-use crate::records::{Body, Head, Layout, Member};
+use crate::records::{Head, Layout, Member, Members};
 use crate::terms::{Term, TypeEnd, TypeId};
 use std::alloc::Global;
 use std::marker::Model;
@@ -30,12 +37,13 @@ pub struct TypeTable {
     alloc: Global,
     terms: Reserved<Term>,
     facts: Reserved<Facts>,
-    /// The number of each type's canonical type.
-    roots: Reserved<TypeId>,
+    shapes: Reserved<Shape>,
     /// The numbers of the terms by their keys.
     numbers: Numbers,
     records: Reserved<Head>,
-    bodies: Reserved<Option<Body>>,
+    /// Of the finished records.
+    layouts: Reserved<Option<Layout>>,
+    members: Reserved<Members>,
     enums: Reserved<Bytes>,
 }
 
@@ -46,7 +54,7 @@ impl Model for TypeTable {
 
     ghost use Rattle.c_types.specs.Sound.{IsSound};
 
-    ghost view = { λ t. record { terms = t.terms.items; records = t.records.items; bodies = t.bodies.items; enums = t.enums.items } };
+    ghost view = { λ t. record { terms = t.terms.items; records = t.records.items; layouts = t.layouts.items; members = t.members.items; enums = t.enums.items } };
 
     ghost invariant = { IsSound };
 }
@@ -54,23 +62,25 @@ impl Model for TypeTable {
 impl TypeTable {
     /// An empty table.
     pub fn new(alloc: Global) -> Result<TypeTable, NoMemory>
-        ensures { IfOk result (λ t. (t.terms ≡ []) × (t.records ≡ []) × (t.bodies ≡ []) × (t.enums ≡ [])) }
+        ensures { IfOk result (λ t. (t.terms ≡ []) × (t.records ≡ []) × (t.layouts ≡ []) × (t.members ≡ []) × (t.enums ≡ [])) }
     {
         let terms = Reserved::with_room(alloc, 0)?;
         let facts = Reserved::with_room(alloc, 0)?;
-        let roots = Reserved::with_room(alloc, 0)?;
+        let shapes = Reserved::with_room(alloc, 0)?;
         let numbers = Numbers::new(alloc);
         let records = Reserved::with_room(alloc, 0)?;
-        let bodies = Reserved::with_room(alloc, 0)?;
+        let layouts = Reserved::with_room(alloc, 0)?;
+        let members = Reserved::with_room(alloc, 0)?;
         let enums = Reserved::with_room(alloc, 0)?;
         Ok(TypeTable {
             alloc,
             terms,
             facts,
-            roots,
+            shapes,
             numbers,
             records,
-            bodies,
+            layouts,
+            members,
             enums,
         })
     }
@@ -81,6 +91,7 @@ impl TypeTable {
         ensures is { slice_get self.now.terms id.0 ≡ Some result.now }
         ensures type_is { type_at self.now.terms id.0 ≡ term_type self.now.terms result.now }
         ensures parts { PartsBelow id.0 result.now }
+        ensures numbers { NumbersBelow (length self.now.records) (length self.now.enums) result.now }
     {
         &self.terms.as_slice()[id.0 as usize]
     }
@@ -102,7 +113,7 @@ impl TypeTable {
     /// Whether the type is a struct or union that was declared and is not finished.
     pub fn is_unfinished(&self, id: TypeId) -> bool
         requires { id.0 < length self.now.terms }
-        ensures { result ≡ is_open self.now.bodies (type_at self.now.terms id.0) }
+        ensures { result ≡ is_open self.now.layouts (type_at self.now.terms id.0) }
     {
         match self.term(id) {
             Term::Record(number) => self.is_open_at(*number),
@@ -111,9 +122,9 @@ impl TypeTable {
     }
 
     fn is_open_at(&self, number: u64) -> bool
-        ensures { result ≡ is_open_slot (slice_get self.now.bodies number) }
+        ensures { result ≡ is_open_slot (slice_get self.now.layouts number) }
     {
-        match self.bodies.get(number as usize) {
+        match self.layouts.get(number as usize) {
             None => false,
             Some(slot) => slot.is_none(),
         }
@@ -122,15 +133,18 @@ impl TypeTable {
     /// Whether the type is a finished struct or union, also behind typedef names and qualifiers.
     pub fn is_finished(&self, id: TypeId) -> bool
         requires { id.0 < length self.now.terms }
-        ensures { result ≡ is_some (body_of self.now (type_at self.now.terms id.0)) }
+        ensures { result ≡ is_finished self.now.layouts (type_at self.now.terms id.0) }
     {
-        self.body(id).is_some()
+        match self.fact(id).record_number {
+            None => false,
+            Some(number) => self.layout(number).is_some(),
+        }
     }
 
     /// What is kept of a type.
     fn fact(&self, id: TypeId) -> Facts
         requires { id.0 < length self.now.terms }
-        ensures { IsFact self.now.bodies (type_at self.now.terms id.0) result }
+        ensures { IsFact self.now.layouts (type_at self.now.terms id.0) result }
     {
         self.facts.as_slice()[id.0 as usize]
     }
@@ -139,8 +153,10 @@ impl TypeTable {
     /// unfinished record.
     pub fn size_of(&self, id: TypeId) -> Option<u32>
         requires { id.0 < length self.now.terms }
-        ensures { result ≡ size self.now.bodies (type_at self.now.terms id.0) }
+        ensures is { result ≡ size self.now.layouts (type_at self.now.terms id.0) }
+        ensures small { IfSome result (λ s. s < limit) }
     {
+        let _ = &self.alloc;
         let fact = self.fact(id);
         self.known_size(fact)
     }
@@ -148,7 +164,7 @@ impl TypeTable {
     /// The alignment in bytes (6.2.8); none of void, a function and an unfinished record.
     pub fn align_of(&self, id: TypeId) -> Option<u32>
         requires { id.0 < length self.now.terms }
-        ensures { result ≡ align self.now.bodies (type_at self.now.terms id.0) }
+        ensures { result ≡ align self.now.layouts (type_at self.now.terms id.0) }
     {
         let fact = self.fact(id);
         self.known_align(fact)
@@ -157,78 +173,27 @@ impl TypeTable {
     /// Whether the type contains a pointer; not so for an unfinished record.
     pub fn has_pointer(&self, id: TypeId) -> bool
         requires { id.0 < length self.now.terms }
-        ensures { result ≡ contains_pointer self.now.bodies (type_at self.now.terms id.0) }
+        ensures { result ≡ contains_pointer self.now.layouts (type_at self.now.terms id.0) }
     {
         let fact = self.fact(id);
         self.known_pointer(fact)
     }
 
-    /// What a record has, if it is finished.
-    fn body(&self, id: TypeId) -> Option<&Body>
-        requires { id.0 < length self.now.terms }
-        ensures { option_copied result ≡ body_of self.now (type_at self.now.terms id.0) }
-    {
-        let fact = self.fact(id);
-        match fact.record_number {
-            None => None,
-            Some(number) => self.body_at(number),
-        }
-    }
-
-    fn body_at(&self, number: u64) -> Option<&Body>
-        ensures { option_copied result ≡ option_and_then (λ o. o) (slice_get self.now.bodies number) }
-    {
-        match self.bodies.get(number as usize) {
-            None => None,
-            Some(slot) => match slot {
-                None => None,
-                Some(body) => Some(body),
-            },
-        }
-    }
-
-    /// The members of a finished record, as they were given to `finish_record`.
-    pub fn members(&self, id: TypeId) -> &Items<Member>
-        requires valid { id.0 < length self.now.terms }
-        requires finished { IsSome (body_of self.now (type_at self.now.terms id.0)) }
-        ensures { IfSome (body_of self.now (type_at self.now.terms id.0)) (λ b. b.members ≡ result.now) }
-    {
-        match self.body(id) {
-            Some(body) => &body.members,
-            None => unreachable!(),
-        }
-    }
-
-    /// Where a member of a finished record stands, in bytes from its beginning.
-    pub fn offset_of(&self, id: TypeId, member: u32) -> u32
-        requires valid { id.0 < length self.now.terms }
-        requires finished { IsSome (body_of self.now (type_at self.now.terms id.0)) }
-        ensures { result ≡ offset_at self.now (type_at self.now.terms id.0) member }
-    {
-        match self.body(id) {
-            None => 0,
-            Some(body) => match body.layout.offsets.get(member as usize) {
-                None => 0,
-                Some(offset) => *offset,
-            },
-        }
-    }
-
     /// The layout of a record, if it is finished.
     fn layout(&self, number: u64) -> Option<&Layout>
-        ensures { option_copied result ≡ layout_at self.now.bodies number }
+        ensures { option_copied result ≡ layout_at self.now.layouts number }
     {
-        match self.bodies.get(number as usize) {
+        match self.layouts.get(number as usize) {
             None => None,
             Some(slot) => match slot {
                 None => None,
-                Some(body) => Some(&body.layout),
+                Some(layout) => Some(layout),
             },
         }
     }
 
     fn known_size(&self, fact: Facts) -> Option<u32>
-        ensures { result ≡ size_by self.now.bodies fact.record_number fact.size }
+        ensures { result ≡ size_by self.now.layouts fact.record_number fact.size }
     {
         match fact.record_number {
             None => fact.size,
@@ -240,7 +205,7 @@ impl TypeTable {
     }
 
     fn known_align(&self, fact: Facts) -> Option<u32>
-        ensures { result ≡ align_by self.now.bodies fact.record_number fact.align }
+        ensures { result ≡ align_by self.now.layouts fact.record_number fact.align }
     {
         match fact.record_number {
             None => fact.align,
@@ -252,7 +217,7 @@ impl TypeTable {
     }
 
     fn known_pointer(&self, fact: Facts) -> bool
-        ensures { result ≡ pointer_by self.now.bodies fact.record_number fact.has_pointer }
+        ensures { result ≡ pointer_by self.now.layouts fact.record_number fact.has_pointer }
     {
         match fact.record_number {
             None => fact.has_pointer,
@@ -261,7 +226,7 @@ impl TypeTable {
     }
 
     fn record_pointer(&self, number: u64) -> bool
-        ensures { result ≡ unwrap_or (option_map (λ l. l.has_pointer) (layout_at self.now.bodies number)) false }
+        ensures { result ≡ unwrap_or (option_map (λ l. l.has_pointer) (layout_at self.now.layouts number)) false }
     {
         match self.layout(number) {
             None => false,
@@ -274,7 +239,7 @@ impl TypeTable {
         requires parts { PartsBelow (length self.old.terms) term }
         requires numbers { NumbersBelow (length self.old.records) (length self.old.enums) term }
 
-        ensures accepted { OnOk result (refusal self.old.bodies (term_type self.old.terms term) ≡ None) }
+        ensures accepted { OnOk result (refusal self.old.layouts (term_type self.old.terms term) ≡ None) }
         ensures term { IfOk result (λ id. slice_get self.new.terms id.0 ≡ Some term) }
         ensures is { IfOk result (λ id. type_at self.new.terms id.0 ≡ term_type self.old.terms term) }
         ensures valid { IfOk result (λ id. id.0 < length self.new.terms) }
@@ -282,14 +247,15 @@ impl TypeTable {
         // What stood in the table stands there still.
         ensures grows { Grows self.old.terms self.new.terms }
         ensures records { self.new.records ≡ self.old.records }
-        ensures bodies { self.new.bodies ≡ self.old.bodies }
+        ensures layouts { self.new.layouts ≡ self.old.layouts }
+        ensures members { self.new.members ≡ self.old.members }
         ensures enums { self.new.enums ≡ self.old.enums }
 
-        ensures cause { IfErr result (λ e. e ≢ end.NoMemory → refusal self.old.bodies (term_type self.old.terms term) ≡ Some e) }
+        ensures cause { IfErr result (λ e. e ≢ end.NoMemory → refusal self.old.layouts (term_type self.old.terms term) ≡ Some e) }
         ensures err { OnErr result (self.new ≡ self.old) }
     {
         let fact = self.fact_of(&term)?;
-        let before = self.len();
+        let before = self.mark();
         match self.add_known(term, fact) {
             Ok(id) => Ok(id),
             Err(end) => {
@@ -305,7 +271,9 @@ impl TypeTable {
         ensures is { IfOk result (λ id. type_at self.new.terms id.0 ≡ c.Record (length self.old.records)) }
         ensures valid { IfOk result (λ id. id.0 < length self.new.terms) }
         ensures records { OnOk result (self.new.records ≡ self.old.records ++ record { is_union = is_union; name = name } ∷ []) }
-        ensures bodies { OnOk result (self.new.bodies ≡ self.old.bodies ++ None ∷ []) }
+        ensures layouts { OnOk result (self.new.layouts ≡ self.old.layouts ++ None ∷ []) }
+        ensures members { OnOk result (self.new.members ≡ self.old.members ++ [] ∷ []) }
+        ensures unfinished { IfOk result (λ id. IsTrue (is_open self.new.layouts (type_at self.new.terms id.0))) }
 
         // What stood in the table stands there still.
         ensures grows { Grows self.old.terms self.new.terms }
@@ -314,13 +282,9 @@ impl TypeTable {
         ensures cause { IfErr result (λ e. e ≡ end.NoMemory) }
         ensures err { OnErr result (self.new ≡ self.old) }
     {
-        let before = self.len();
         match self.push_record(Head { is_union, name }) {
             Ok(id) => Ok(id),
-            Err(NoMemory) => {
-                self.cut(before);
-                Err(TypeEnd::NoMemory)
-            }
+            Err(NoMemory) => Err(TypeEnd::NoMemory),
         }
     }
 
@@ -334,12 +298,13 @@ impl TypeTable {
         // What stood in the table stands there still.
         ensures grows { Grows self.old.terms self.new.terms }
         ensures records { self.new.records ≡ self.old.records }
-        ensures bodies { self.new.bodies ≡ self.old.bodies }
+        ensures layouts { self.new.layouts ≡ self.old.layouts }
+        ensures members { self.new.members ≡ self.old.members }
 
         ensures cause { IfErr result (λ e. e ≡ end.NoMemory) }
         ensures err { OnErr result (self.new ≡ self.old) }
     {
-        let before = self.len();
+        let before = self.mark();
         match self.push_enum(name) {
             Ok(id) => Ok(id),
             Err(NoMemory) => {
@@ -353,19 +318,20 @@ impl TypeTable {
     /// length aside, and a size of 2^28 bytes or more.
     pub fn finish_record(&mut self, id: TypeId, members: Items<Member>) -> Result<(), TypeEnd>
         requires valid { id.0 < length self.old.terms }
-        requires unfinished { IsTrue (is_open self.old.bodies (type_at self.old.terms id.0)) }
+        requires unfinished { IsTrue (is_open self.old.layouts (type_at self.old.terms id.0)) }
         requires some { 0 < length members }
         requires below { MembersBelow (length self.old.terms) members }
-        ensures accepted { OnOk result (let k = number_of (type_at self.old.terms id.0) in record_refusal self.old.bodies (is_union_at self.old.records k) (member_types self.old.terms members) ≡ None) }
+        ensures accepted { OnOk result (let k = number_of (type_at self.old.terms id.0) in record_refusal self.old.layouts (is_union_at self.old.records k) (member_types self.old.terms members) ≡ None) }
         ensures finished { OnOk result (self.new ≡ finished self.old (number_of (type_at self.old.terms id.0)) members) }
-        ensures cause { IfErr result (λ e. e ≢ end.NoMemory → (let k = number_of (type_at self.old.terms id.0) in record_refusal self.old.bodies (is_union_at self.old.records k) (member_types self.old.terms members) ≡ Some e)) }
+        ensures cause { IfErr result (λ e. e ≢ end.NoMemory → (let k = number_of (type_at self.old.terms id.0) in record_refusal self.old.layouts (is_union_at self.old.records k) (member_types self.old.terms members) ≡ Some e)) }
         ensures err { OnErr result (self.new ≡ self.old) }
     {
         let number = self.record_number(id);
-        let is_union = self.is_union(number);
+        let is_union = self.is_union_at(number);
         let layout = self.lay_out(is_union, members.as_slice())?;
-        self.bodies
-            .set(number as usize, Some(Body { members, layout }));
+        let members = Members::new(self.alloc, members)?;
+        self.layouts.set(number as usize, Some(layout));
+        self.members.set(number as usize, members);
         Ok(())
     }
 
@@ -379,7 +345,7 @@ impl TypeTable {
         }
     }
 
-    fn is_union(&self, number: u64) -> bool
+    fn is_union_at(&self, number: u64) -> bool
         ensures { result ≡ is_union_at self.now.records number }
     {
         match self.records.get(number as usize) {
@@ -391,9 +357,10 @@ impl TypeTable {
     /// The layout that members give, or why they give none.
     fn lay_out(&self, is_union: bool, members: &[Member]) -> Result<Layout, TypeEnd>
         requires { MembersBelow (length self.now.terms) members.now }
-        ensures ok { IfOk result (λ l. l ≡ laid_out self.now.bodies is_union (member_types self.now.terms members.now)) }
-        ensures accepted { OnOk result (record_refusal self.now.bodies is_union (member_types self.now.terms members.now) ≡ None) }
-        ensures cause { IfErr result (λ e. e ≢ end.NoMemory → record_refusal self.now.bodies is_union (member_types self.now.terms members.now) ≡ Some e) }
+        ensures ok { IfOk result (λ l. l ≡ laid_out self.now.layouts is_union (member_types self.now.terms members.now)) }
+        ensures small { IfOk result (λ l. l.size < limit) }
+        ensures accepted { OnOk result (record_refusal self.now.layouts is_union (member_types self.now.terms members.now) ≡ None) }
+        ensures cause { IfErr result (λ e. e ≢ end.NoMemory → record_refusal self.now.layouts is_union (member_types self.now.terms members.now) ≡ Some e) }
     {
         if !self.are_sized(members) {
             return Err(TypeEnd::Incomplete);
@@ -404,7 +371,7 @@ impl TypeTable {
     /// Whether each member has a size, the last one also where it is an array without a length.
     fn are_sized(&self, members: &[Member]) -> bool
         requires { MembersBelow (length self.now.terms) members.now }
-        ensures { result ≡ are_sized self.now.bodies (member_types self.now.terms members.now) }
+        ensures { result ≡ are_sized self.now.layouts (member_types self.now.terms members.now) }
     {
         for (i, member) in members.iter().enumerate() {
             if !self.is_sized(member.ty, i + 1 == members.len()) {
@@ -416,22 +383,24 @@ impl TypeTable {
 
     fn is_sized(&self, id: TypeId, is_last: bool) -> bool
         requires { id.0 < length self.now.terms }
-        ensures { result ≡ (is_some (size self.now.bodies (type_at self.now.terms id.0)) || (is_last && is_flexible (type_at self.now.terms id.0))) }
+        ensures { result ≡ (is_some (size self.now.layouts (type_at self.now.terms id.0)) || (is_last && is_flexible (type_at self.now.terms id.0))) }
     {
         self.size_of(id).is_some() || (is_last && self.fact(id).is_flexible)
     }
 
     fn lay_out_sized(&self, is_union: bool, members: &[Member]) -> Result<Layout, TypeEnd>
         requires { MembersBelow (length self.now.terms) members.now }
-        ensures ok { IfOk result (λ l. l ≡ laid_out self.now.bodies is_union (member_types self.now.terms members.now)) }
-        ensures accepted { OnOk result (nat_le limit (record_size self.now.bodies is_union (member_types self.now.terms members.now)) ≡ false) }
-        ensures cause { IfErr result (λ e. e ≢ end.NoMemory → (e ≡ end.TooLarge) × (nat_le limit (record_size self.now.bodies is_union (member_types self.now.terms members.now)) ≡ true)) }
+        ensures ok { IfOk result (λ l. l ≡ laid_out self.now.layouts is_union (member_types self.now.terms members.now)) }
+        ensures small { IfOk result (λ l. l.size < limit) }
+        ensures accepted { OnOk result (nat_le limit (record_size self.now.layouts is_union (member_types self.now.terms members.now)) ≡ false) }
+        ensures cause { IfErr result (λ e. e ≢ end.NoMemory → (e ≡ end.TooLarge) × (nat_le limit (record_size self.now.layouts is_union (member_types self.now.terms members.now)) ≡ true)) }
     {
         let mut offsets = Items::new(self.alloc);
         let mut so_far = Reached {
             end: 0,
             align: 1,
             has_pointer: false,
+            has_const: false,
         };
         for member in members {
             let (at, next) = match self.step(is_union, so_far, member.ty) {
@@ -450,6 +419,7 @@ impl TypeTable {
             align: so_far.align,
             offsets,
             has_pointer: so_far.has_pointer,
+            has_const: so_far.has_const,
         })
     }
 
@@ -457,12 +427,13 @@ impl TypeTable {
     fn step(&self, is_union: bool, so_far: Reached, id: TypeId) -> Result<(u32, Reached), TypeEnd>
         requires id { id.0 < length self.now.terms }
         requires align { 0 < so_far.align }
-        ensures at { IfOk result (λ s. s.0 ≡ place self.now.bodies is_union so_far.end (type_at self.now.terms id.0)) }
-        ensures end { IfOk result (λ s. s.1.end ≡ reach self.now.bodies is_union so_far.end (type_at self.now.terms id.0)) }
-        ensures align { IfOk result (λ s. s.1.align ≡ max so_far.align (alignment self.now.bodies (type_at self.now.terms id.0))) }
-        ensures pointer { IfOk result (λ s. s.1.has_pointer ≡ (so_far.has_pointer || contains_pointer self.now.bodies (type_at self.now.terms id.0))) }
+        ensures at { IfOk result (λ s. s.0 ≡ place self.now.layouts is_union so_far.end (type_at self.now.terms id.0)) }
+        ensures end { IfOk result (λ s. s.1.end ≡ reach self.now.layouts is_union so_far.end (type_at self.now.terms id.0)) }
+        ensures align { IfOk result (λ s. s.1.align ≡ max so_far.align (alignment self.now.layouts (type_at self.now.terms id.0))) }
+        ensures pointer { IfOk result (λ s. s.1.has_pointer ≡ (so_far.has_pointer || contains_pointer self.now.layouts (type_at self.now.terms id.0))) }
+        ensures consts { IfOk result (λ s. s.1.has_const ≡ (so_far.has_const || holds_const self.now.layouts (type_at self.now.terms id.0))) }
         ensures small { IfOk result (λ s. s.1.end < limit) }
-        ensures cause { IfErr result (λ e. (e ≡ end.TooLarge) × (limit ≤ reach self.now.bodies is_union so_far.end (type_at self.now.terms id.0))) }
+        ensures cause { IfErr result (λ e. (e ≡ end.TooLarge) × (limit ≤ reach self.now.layouts is_union so_far.end (type_at self.now.terms id.0))) }
     {
         let at = self.place(is_union, so_far.end, id);
         let end = (so_far.end as u64).max(at + self.bytes(id) as u64);
@@ -471,10 +442,12 @@ impl TypeTable {
         }
         let align = so_far.align.max(self.alignment(id));
         let has_pointer = so_far.has_pointer || self.has_pointer(id);
+        let has_const = so_far.has_const || self.holds_const(id);
         let next = Reached {
             end: end as u32,
             align,
             has_pointer,
+            has_const,
         };
         Ok((at as u32, next))
     }
@@ -482,7 +455,7 @@ impl TypeTable {
     /// Where a member stands behind those that reach to `at`.
     fn place(&self, is_union: bool, at: u32, id: TypeId) -> u64
         requires { id.0 < length self.now.terms }
-        ensures value { result ≡ place self.now.bodies is_union at (type_at self.now.terms id.0) }
+        ensures value { result ≡ place self.now.layouts is_union at (type_at self.now.terms id.0) }
         ensures bound { result < 2 ^ 33 }
     {
         if is_union {
@@ -494,14 +467,14 @@ impl TypeTable {
 
     fn bytes(&self, id: TypeId) -> u32
         requires { id.0 < length self.now.terms }
-        ensures { result ≡ bytes self.now.bodies (type_at self.now.terms id.0) }
+        ensures { result ≡ bytes self.now.layouts (type_at self.now.terms id.0) }
     {
         self.size_of(id).unwrap_or(0)
     }
 
     fn alignment(&self, id: TypeId) -> u32
         requires { id.0 < length self.now.terms }
-        ensures { result ≡ alignment self.now.bodies (type_at self.now.terms id.0) }
+        ensures { result ≡ alignment self.now.layouts (type_at self.now.terms id.0) }
     {
         self.align_of(id).unwrap_or(1).max(1)
     }
@@ -509,9 +482,9 @@ impl TypeTable {
     /// The facts of a type to be made of this term, or why it can't be made.
     fn fact_of(&self, term: &Term) -> Result<Facts, TypeEnd>
         requires { PartsBelow (length self.now.terms) term.now }
-        ensures ok { IfOk result (λ f. IsFact self.now.bodies (term_type self.now.terms term.now) f) }
-        ensures accepted { OnOk result (refusal self.now.bodies (term_type self.now.terms term.now) ≡ None) }
-        ensures cause { IfErr result (λ e. refusal self.now.bodies (term_type self.now.terms term.now) ≡ Some e) }
+        ensures ok { IfOk result (λ f. IsFact self.now.layouts (term_type self.now.terms term.now) f) }
+        ensures accepted { OnOk result (refusal self.now.layouts (term_type self.now.terms term.now) ≡ None) }
+        ensures cause { IfErr result (λ e. refusal self.now.layouts (term_type self.now.terms term.now) ≡ Some e) }
     {
         match term {
             Term::Void => Ok(Facts::without_size()),
@@ -523,15 +496,15 @@ impl TypeTable {
             Term::Function(_, _) => Ok(Facts::without_size()),
             Term::Record(number) => Ok(Facts::of_record(*number)),
             Term::Named(name, inner) => Ok(self.named_fact(name, *inner)),
-            Term::Qualified(_, inner) => Ok(self.fact(*inner)),
+            Term::Qualified(qualifiers, inner) => Ok(self.qualified_fact(*qualifiers, *inner)),
         }
     }
 
     fn array_fact(&self, element: TypeId, count: u32) -> Result<Facts, TypeEnd>
         requires { element.0 < length self.now.terms }
-        ensures ok { IfOk result (λ f. IsFact self.now.bodies (c.Array (type_at self.now.terms element.0) count) f) }
-        ensures accepted { OnOk result (array_refusal count (size self.now.bodies (type_at self.now.terms element.0)) ≡ None) }
-        ensures cause { IfErr result (λ e. array_refusal count (size self.now.bodies (type_at self.now.terms element.0)) ≡ Some e) }
+        ensures ok { IfOk result (λ f. IsFact self.now.layouts (c.Array (type_at self.now.terms element.0) count) f) }
+        ensures accepted { OnOk result (array_refusal count (size self.now.layouts (type_at self.now.terms element.0)) ≡ None) }
+        ensures cause { IfErr result (λ e. array_refusal count (size self.now.layouts (type_at self.now.terms element.0)) ≡ Some e) }
     {
         let fact = self.fact(element);
         match self.known_size(fact) {
@@ -549,6 +522,8 @@ impl TypeTable {
                     align,
                     has_pointer,
                     is_flexible: false,
+                    is_const: fact.is_const,
+                    held: fact.held,
                 })
             }
         }
@@ -556,9 +531,9 @@ impl TypeTable {
 
     fn flexible_fact(&self, element: TypeId) -> Result<Facts, TypeEnd>
         requires { element.0 < length self.now.terms }
-        ensures ok { IfOk result (λ f. IsFact self.now.bodies (c.Flexible (type_at self.now.terms element.0)) f) }
-        ensures accepted { OnOk result (IsSome (size self.now.bodies (type_at self.now.terms element.0))) }
-        ensures cause { IfErr result (λ e. (e ≡ end.Incomplete) × (size self.now.bodies (type_at self.now.terms element.0) ≡ None)) }
+        ensures ok { IfOk result (λ f. IsFact self.now.layouts (c.Flexible (type_at self.now.terms element.0)) f) }
+        ensures accepted { OnOk result (IsSome (size self.now.layouts (type_at self.now.terms element.0))) }
+        ensures cause { IfErr result (λ e. (e ≡ end.Incomplete) × (size self.now.layouts (type_at self.now.terms element.0) ≡ None)) }
     {
         let fact = self.fact(element);
         match self.known_size(fact) {
@@ -572,14 +547,23 @@ impl TypeTable {
                     align,
                     has_pointer,
                     is_flexible: true,
+                    is_const: fact.is_const,
+                    held: fact.held,
                 })
             }
         }
     }
 
+    fn qualified_fact(&self, qualifiers: u8, inner: TypeId) -> Facts
+        requires { inner.0 < length self.now.terms }
+        ensures { IsFact self.now.layouts (c.Qualified qualifiers (type_at self.now.terms inner.0)) result }
+    {
+        with_const(qualifiers, self.fact(inner))
+    }
+
     fn named_fact(&self, name: &Bytes, inner: TypeId) -> Facts
         requires { inner.0 < length self.now.terms }
-        ensures { IsFact self.now.bodies (c.Named name.now (type_at self.now.terms inner.0)) result }
+        ensures { IsFact self.now.layouts (c.Named name.now (type_at self.now.terms inner.0)) result }
     {
         let fact = self.fact(inner);
         let is_uintptr = name_is_uintptr(name);
@@ -590,12 +574,22 @@ impl TypeTable {
     }
 }
 
-/// How far the members of a record reach, their greatest alignment, and whether one has a pointer.
+/// The facts of a type with these qualifiers too.
+fn with_const(qualifiers: u8, fact: Facts) -> Facts
+    ensures { (ls : List (Option Layout)) (t : CType) → IsFact ls t fact → IsFact ls (c.Qualified qualifiers t) result }
+{
+    let is_const = qualifiers & 1 == 1 || fact.is_const;
+    Facts { is_const, ..fact }
+}
+
+/// How far the members of a record reach, their greatest alignment, and whether one has a pointer, and
+/// what is const.
 #[derive(Clone, Copy)]
 struct Reached {
     end: u32,
     align: u32,
     has_pointer: bool,
+    has_const: bool,
 }
 
 /// The bytes from which on a type is too large.

@@ -2,7 +2,8 @@
 
 ghost use Rattle.std.specs.Prelude.{◌≡◌, ◌<◌, ◌+◌, ◌^◌, ◌++◌, length, [], ◌∷◌, slice_get, IfOk, OnOk, IfSome, IfNone, OnSome};
 ghost use Rattle.c_types.specs.CTypes.{no_types, one_type};
-ghost use Rattle.c_types.specs.Pieces.{names_of, record_name, enum_name, parameters, without, IsPiece, ArePieces, IsWritten};
+ghost use Rattle.c_types.specs.Pieces.{names_of, record_name, enum_name, without, IsPiece, ArePieces, IsWritten};
+ghost use Rattle.c_types.specs.Plain.{parameters_of};
 ghost use Rattle.c_types.specs.Spelling.{spelling, is_suffixed};
 ghost use Rattle.c_types.specs.Table.{type_at};
 ghost use Rattle.c_types.specs.declared.pieces.Inside.TheVariants as inside;
@@ -24,7 +25,7 @@ impl TypeTable {
         ensures { IfOk result (λ text. text ≡ spelling (names_of self.now) (type_at self.now.terms id.0)) }
     {
         let root = self.canonical(id);
-        let mut out = Vec::new(alloc);
+        let mut out = Vec::with_capacity(alloc, self.shape(root).spelled.length as usize)?;
         let mut pieces = Vec::new(alloc);
         push(&mut pieces, Piece::Behind(root))?;
         push(&mut pieces, Piece::Outer(root, Inside::Nothing))?;
@@ -202,8 +203,8 @@ impl TypeTable {
 
     fn parameter_at(&self, id: TypeId, at: u64) -> Option<TypeId>
         requires { id.0 < length self.now.terms }
-        ensures none { IfNone result (without at (parameters (type_at self.now.terms id.0)) ≡ no_types) }
-        ensures some { IfSome result (λ p. without at (parameters (type_at self.now.terms id.0)) ≡ one_type (type_at self.now.terms p.0) (without (at + 1) (parameters (type_at self.now.terms id.0)))) }
+        ensures none { IfNone result (without at (parameters_of (type_at self.now.terms id.0)) ≡ no_types) }
+        ensures some { IfSome result (λ p. without at (parameters_of (type_at self.now.terms id.0)) ≡ one_type (type_at self.now.terms p.0) (without (at + 1) (parameters_of (type_at self.now.terms id.0)))) }
         ensures within { IfSome result (λ p. p.0 < length self.now.terms) }
         ensures bound { OnSome result (at + 1 < 2 ^ 64) }
     {
@@ -231,7 +232,7 @@ impl TypeTable {
         }
     }
 
-    fn record_name(&self, number: u64) -> &[u8]
+    pub(super) fn record_name(&self, number: u64) -> &[u8]
         ensures { result.now ≡ record_name self.now.records number }
     {
         match self.records.get(number as usize) {
@@ -240,7 +241,7 @@ impl TypeTable {
         }
     }
 
-    fn enum_name(&self, number: u64) -> &[u8]
+    pub(super) fn enum_name(&self, number: u64) -> &[u8]
         ensures { result.now ≡ enum_name self.now.enums number }
     {
         match self.enums.get(number as usize) {

@@ -4,4 +4,4 @@ use Rattle.c_types.specs.Table.{member_types}
 use Rattle.c_types.proofs.table.TypeTable.are_sized.Given as goal
 
 abbrev pub invariant-loop-i : goal.invariant-loop-i
-invariant-loop-i l = are_sized l.self.bodies (member_types l.self.terms l.members) ≡ are_sized l.self.bodies (member_types l.self.terms (drop l.i l.members))
+invariant-loop-i l = are_sized l.self.layouts (member_types l.self.terms l.members) ≡ are_sized l.self.layouts (member_types l.self.terms (drop l.i l.members))

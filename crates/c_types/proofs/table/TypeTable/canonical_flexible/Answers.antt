@@ -6,5 +6,5 @@ use Rattle.c_types.proofs.table.TypeTable.canonical_flexible.Goals as goal
 
 pub returns-in-Err-clause-cause : goal.returns-in-Err-clause-cause
 returns-in-Err-clause-cause c =
-    let none : size c.args.self.now.bodies (type_at c.args.self.now.terms c.args.element.0) ≡ None = rw (c.root-root.ensures.is, size_canonical c.args.self.now.bodies (type_at c.args.self.now.terms c.args.element.0)) at c.in-Err.ensures.cause.1 in
+    let none : size c.args.self.now.layouts (type_at c.args.self.now.terms c.args.element.0) ≡ None = rw (c.root-root.ensures.is, size_canonical c.args.self.now.layouts (type_at c.args.self.now.terms c.args.element.0)) at c.in-Err.ensures.cause.1 in
     λ _. rw (none, c.in-Err.ensures.cause.0) refl

@@ -13,7 +13,7 @@ pub returns-in-None-clause-missing : goal.returns-in-None-clause-missing
 returns-in-None-clause-missing c =
     let terms : c.self.inside.terms.items ≡ c.args.self.now.terms = ap (λ (t : Table). t.terms) c.self.view_is in
     let i = c.self.invariant in
-    rw (← terms) (λ t e. missing c.self.inside.terms.items c.self.inside.roots.items (found c.self.inside.numbers) t i.ordered i.roots_long i.canonical i.found
+    rw (← terms) (λ t e. missing c.self.inside.terms.items c.self.inside.shapes.items (found c.self.inside.numbers) t i.ordered i.shapes_long i.shapes i.found
     (fresh_none c.self.inside.terms.items (found c.self.inside.numbers) c.args.wanted.now i.found (sym c.in-None.ensures) t e))
 
 pub returns-in-Some-clause-fresh : goal.returns-in-Some-clause-fresh
@@ -25,5 +25,5 @@ pub returns-in-Some-clause-missing : goal.returns-in-Some-clause-missing
 returns-in-Some-clause-missing c =
     let terms : c.self.inside.terms.items ≡ c.args.self.now.terms = ap (λ (t : Table). t.terms) c.self.view_is in
     let i = c.self.invariant in
-    none_from c.found.result (λ n. rw (← terms) (λ t e. missing c.self.inside.terms.items c.self.inside.roots.items (found c.self.inside.numbers) t i.ordered i.roots_long i.canonical i.found
+    none_from c.found.result (λ n. rw (← terms) (λ t e. missing c.self.inside.terms.items c.self.inside.shapes.items (found c.self.inside.numbers) t i.ordered i.shapes_long i.shapes i.found
     (fresh_some c.self.inside.terms.items (found c.self.inside.numbers) c.args.wanted.now c.in-Some.number i.found (sym c.in-Some.ensures) (rw terms n) t e))) c.found.ensures.none

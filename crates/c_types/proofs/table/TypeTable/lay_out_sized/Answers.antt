@@ -11,6 +11,6 @@ returns-in-Err-clause-cause c =
     let cause = c.in-Err.ensures.cause in
     λ _. (
       cause.0,
-      too_far c.args.self.now.bodies c.args.is_union (member_types c.args.self.now.terms c.args.members.now) (member_types c.args.self.now.terms (drop (suc c.loop-member.member-index) c.args.members.now)) c.loop-member.so_far.end (type_at c.args.self.now.terms c.member-item.result.ty.0)
-          (c.loop-member.invariant.end_is ∙ ap (end_of c.args.self.now.bodies c.args.is_union c.loop-member.so_far.end) rest) cause.1,
+      too_far c.args.self.now.layouts c.args.is_union (member_types c.args.self.now.terms c.args.members.now) (member_types c.args.self.now.terms (drop (suc c.loop-member.member-index) c.args.members.now)) c.loop-member.so_far.end (type_at c.args.self.now.terms c.member-item.result.ty.0)
+          (c.loop-member.invariant.end_is ∙ ap (end_of c.args.self.now.layouts c.args.is_union c.loop-member.so_far.end) rest) cause.1,
     )

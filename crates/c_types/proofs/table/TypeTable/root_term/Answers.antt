@@ -25,3 +25,13 @@ returns-clause-roots c =
     let all = rw e at c.self.invariant.found in
     let at : slice_get c.args.self.now.terms c.args.id.0 ≡ Some c.index-as_slice-id.result = present c.args.self.now.terms c.args.id.0 c.index-as_slice-id.result c.requires.first.below ∙ ap Some (sym got) in
     (all c.args.id.0 c.index-as_slice-id.result at c.requires).0
+
+pub returns-clause-numbers : goal.returns-clause-numbers
+returns-clause-numbers c =
+    let e : c.self.inside.terms.items ≡ c.args.self.now.terms = ap (λ (t : Table). t.terms) c.self.view_is in
+    let records : c.self.inside.records.items ≡ c.args.self.now.records = ap (λ (t : Table). t.records) c.self.view_is in
+    let enums : c.self.inside.enums.items ≡ c.args.self.now.enums = ap (λ (t : Table). t.enums) c.self.view_is in
+    let got = rw (c.as_slice.ensures, e) at c.index-as_slice-id.is in
+    let all = rw (e, records, enums) at c.self.invariant.numbered in
+    let at : slice_get c.args.self.now.terms c.args.id.0 ≡ Some c.index-as_slice-id.result = present c.args.self.now.terms c.args.id.0 c.index-as_slice-id.result c.requires.first.below ∙ ap Some (sym got) in
+    all c.args.id.0 c.index-as_slice-id.result at

@@ -7,7 +7,7 @@ use Rattle.c_types.proofs.table.TypeTable.spelling.Goals as goal
 
 pub loop-piece-init : goal.loop-piece-init
 loop-piece-init c = record {
-  so_far = first_text c.args.self.now.terms (names_of c.args.self.now) c.canonical-root.result (type_at c.args.self.now.terms c.args.id.0) c.new-out.result.items c.new-pieces.result.items c.push.new.pieces.items c.push-2.new.pieces.items c.new-out.ensures.items c.new-pieces.ensures.items c.in_ok-push.ensures c.in_ok-push-2.ensures c.canonical-root.ensures.is;
+  so_far = first_text c.args.self.now.terms (names_of c.args.self.now) c.canonical-root.result (type_at c.args.self.now.terms c.args.id.0) c.in_ok-out.out.items c.new-pieces.result.items c.push.new.pieces.items c.push-2.new.pieces.items c.in_ok-out.ensures.items c.new-pieces.ensures.items c.in_ok-push.ensures c.in_ok-push-2.ensures c.canonical-root.ensures.is;
   valid = first_valid (length c.args.self.now.terms) c.canonical-root.result c.new-pieces.result.items c.push.new.pieces.items c.push-2.new.pieces.items c.new-pieces.ensures.items c.in_ok-push.ensures c.in_ok-push-2.ensures c.canonical-root.ensures.below;
 }
 

@@ -1,0 +1,4 @@
+pub mod Held
+pub mod Parted
+pub mod Reading
+pub mod Spelled

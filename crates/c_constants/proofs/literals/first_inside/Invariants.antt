@@ -1,0 +1,7 @@
+use Rattle.std.proofs.Common.{◌≡◌, drop}
+use Rattle.c_constants.specs.Literals as literals
+use Rattle.c_constants.specs.declared.literals.Reading.TheVariants as reading
+use Rattle.c_constants.proofs.literals.first_inside.Given as goal
+
+abbrev pub invariant-loop-b : goal.invariant-loop-b
+invariant-loop-b l = literals.first_byte (literals.bytes_from l.q reading.Between l.inside) ≡ literals.first_byte (literals.bytes_from l.q l.reading (drop l.b-index l.inside))

@@ -1,0 +1,4 @@
+pub mod Integers
+pub mod Laws
+pub mod Literals
+pub mod Rows
