@@ -1,0 +1,13 @@
+pub mod Judged
+pub mod Kept1
+pub mod Kept2
+pub mod BrokenNames
+pub mod BrokenDeclarations
+pub mod BrokenOperators
+pub mod BrokenUses
+pub mod Documented
+pub mod Mains
+pub mod Found
+pub mod Bound
+pub mod Noted
+pub mod Laws
