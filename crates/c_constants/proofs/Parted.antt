@@ -27,11 +27,11 @@ slash_taken q e = rw e refl
 -- behind an escape that ended its value comes first
 ended_by : (q v c : ℕ) (bs : List ℕ) (k m : Bool)
     → put (if k then taken (Some v) None r.Closed else if m then taken (Some v) None r.Escaped else taken (Some v) (Some c) r.Between).ended
-        (put (if k then taken (Some v) None r.Closed else if m then taken (Some v) None r.Escaped else taken (Some v) (Some c) r.Between).own
-        (bytes_from q (if k then taken (Some v) None r.Closed else if m then taken (Some v) None r.Escaped else taken (Some v) (Some c) r.Between).reading bs))
+    (put (if k then taken (Some v) None r.Closed else if m then taken (Some v) None r.Escaped else taken (Some v) (Some c) r.Between).own
+    (bytes_from q (if k then taken (Some v) None r.Closed else if m then taken (Some v) None r.Escaped else taken (Some v) (Some c) r.Between).reading bs))
     ≡ v ∷ put (if k then taken None None r.Closed else if m then taken None None r.Escaped else taken None (Some c) r.Between).ended
-        (put (if k then taken None None r.Closed else if m then taken None None r.Escaped else taken None (Some c) r.Between).own
-        (bytes_from q (if k then taken None None r.Closed else if m then taken None None r.Escaped else taken None (Some c) r.Between).reading bs))
+    (put (if k then taken None None r.Closed else if m then taken None None r.Escaped else taken None (Some c) r.Between).own
+    (bytes_from q (if k then taken None None r.Closed else if m then taken None None r.Escaped else taken None (Some c) r.Between).reading bs))
 ended_by q v c bs true m = refl
 ended_by q v c bs false true = refl
 ended_by q v c bs false false = refl
@@ -71,9 +71,9 @@ octal_end : (q n v : ℕ) (rest : List ℕ) → (rest ≡ [] → ⊥) → (n ≡
 octal_end q n v [] not u = absurd (not refl)
 octal_end q n v (c ∷ bs) not (inl e) = ended q v c bs (r.Octal n v) (let k : (is_octal c && nat_lt n 3) ≡ false = rw e (no (is_octal c)) in rw k refl)
   where
-  no : (b : Bool) → (b && nat_lt 3 3) ≡ false
-  no true = refl
-  no false = refl
+    no : (b : Bool) → (b && nat_lt 3 3) ≡ false
+    no true = refl
+    no false = refl
 octal_end q n v (c ∷ bs) not (inr h) = ended q v c bs (r.Octal n v) (let k : is_octal c ≡ false = h in rw k refl)
 
 hex_end : (q v : ℕ) (rest : List ℕ) → (rest ≡ [] → ⊥) → NotNext is_hex rest → bytes_from q (r.Hexadecimal v) rest ≡ v ∷ bytes_from q r.Between rest

@@ -168,17 +168,17 @@ pub equal_is : (b : Bool) (t u : CType) → (b ≡ true → t ≡ u) → (t ≡ 
 equal_is true t u f g = sym (subst (λ x. equal t x ≡ true) (f refl) (equal_self t))
 equal_is false t u f g = by (equal t u) refl
   where
-  by : (d : Bool) → equal t u ≡ d → false ≡ equal t u
-  by true e = g (equal_tells t u e) ∙ sym e
-  by false e = sym e
+    by : (d : Bool) → equal t u ≡ d → false ≡ equal t u
+    by true e = g (equal_tells t u e) ∙ sym e
+    by false e = sym e
 
 -- ---- numbers of canonical types
 
 pub firsts_equal : (ts : List Term) (t u : CType) (x y : ℕ) → IsFirst ts t x → IsFirst ts u y → eqb x y ≡ equal t u
 firsts_equal ts t u x y a b =
     equal_is (eqb x y) t u
-        (λ h. let e : x ≡ y = eqb-true x y h in sym a.is ∙ ap (type_at ts) e ∙ b.is)
-        (λ e. let f : x ≡ y = one_first ts t x y a (rw e b) in eq-eqb x y f)
+    (λ h. let e : x ≡ y = eqb-true x y h in sym a.is ∙ ap (type_at ts) e ∙ b.is)
+    (λ e. let f : x ≡ y = one_first ts t x y a (rw e b) in eq-eqb x y f)
 
 pub roots_equal : (ts : List Term) (t u : CType) (x y : ℕ) → IsRoot ts x → IsRoot ts y → type_at ts x ≡ t → type_at ts y ≡ u → eqb x y ≡ equal t u
 roots_equal ts t u x y a b e f = firsts_equal ts t u x y (rw e at a.first) (rw f at b.first)

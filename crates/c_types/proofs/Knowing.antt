@@ -122,6 +122,6 @@ pub small_by : (rs : List (Option Layout)) (r : Option ℕ) (known : Option ℕ)
 small_by rs None known h all = h
 small_by rs (Some k) known h all = of (layout_at rs k) refl
   where
-  of : (o : Option Layout) → layout_at rs k ≡ o → IfSome (option_map (λ l. l.size) o) (λ s. s < 268435456)
-  of (Some l) e = all k l e
-  of None e = tt
+    of : (o : Option Layout) → layout_at rs k ≡ o → IfSome (option_map (λ l. l.size) o) (λ s. s < 268435456)
+    of (Some l) e = all k l e
+    of None e = tt

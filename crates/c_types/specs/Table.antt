@@ -141,7 +141,6 @@ number_of (c.Function t ps) = 0
 number_of (c.Named n t) = 0
 number_of (c.Qualified q t) = 0
 
-
 -- the table with a record finished
 abbrev pub finished : Table → ℕ → List Member → Table
 finished t k ms = record t {

@@ -54,9 +54,10 @@ module _ {K : Type 0} (text : K → List ℕ) where
 pub there : (f : List ℕ → Option ℕ) (name : List ℕ) (place was : ℕ) (other : List ℕ) → f name ≡ Some was → f other ≡ with_place f name place other
 there f name place was other g = by (pointwise nat_eq other name) refl
   where
-  has : (o : Option ℕ) (p : Option ℕ) → is_some o ≡ true → o ≡ or_else o p
-  has (Some n) p e = refl
-  has None p e = cc
-  by : (b : Bool) → pointwise nat_eq other name ≡ b → f other ≡ or_else (f other) (if b then Some place else None)
-  by true e = has (f other) (Some place) (ap (λ n. is_some (f n)) (texts.same_text other name (sym e)) ∙ ap is_some g)
-  by false e = sym (or_none (f other))
+    has : (o : Option ℕ) (p : Option ℕ) → is_some o ≡ true → o ≡ or_else o p
+    has (Some n) p e = refl
+    has None p e = cc
+
+    by : (b : Bool) → pointwise nat_eq other name ≡ b → f other ≡ or_else (f other) (if b then Some place else None)
+    by true e = has (f other) (Some place) (ap (λ n. is_some (f n)) (texts.same_text other name (sym e)) ∙ ap is_some g)
+    by false e = sym (or_none (f other))

@@ -106,7 +106,10 @@ impl Machine {
 
     fn word(&mut self, word: &str) -> Result<(), Stop> {
         let (name, argument) = word.split_once(':').unwrap_or((word, ""));
-        if self.make(name, argument)? || self.records(name, argument)? || self.ask(name, argument)? {
+        if self.make(name, argument)?
+            || self.records(name, argument)?
+            || self.ask(name, argument)?
+        {
             return Ok(());
         }
         Err(Stop::Word)

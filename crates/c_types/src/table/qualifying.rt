@@ -20,7 +20,11 @@ use crate::terms::{Term, TypeEnd, TypeId};
 use tok_base::NoMemory;
 
 impl TypeTable {
-    pub(super) fn canonical_qualified(&mut self, qualifiers: u8, inner: TypeId) -> Result<TypeId, TypeEnd>
+    pub(super) fn canonical_qualified(
+        &mut self,
+        qualifiers: u8,
+        inner: TypeId,
+    ) -> Result<TypeId, TypeEnd>
         requires inner { inner.0 < length self.old.terms }
         requires small { qualifiers < 8 }
         ensures is { IfOk result (λ id. type_at self.new.terms id.0 ≡ qualify qualifiers (canonical (type_at self.old.terms inner.0))) }

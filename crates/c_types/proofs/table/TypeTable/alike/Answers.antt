@@ -10,6 +10,6 @@ returns c =
     let a = canonical (type_at c.args.self.now.terms c.args.a.0) in
     let b = canonical (type_at c.args.self.now.terms c.args.b.0) in
     roots_equal c.args.self.now.terms (with_ints (unqualified a)) (with_ints (unqualified b)) c.unqualified-first.result.0 c.unqualified-second.result.0
-        c.unqualified-first.ensures.root c.unqualified-second.ensures.root
-        (c.unqualified-first.ensures.is ∙ ap unqualified c.ints-ints_a.ensures.is ∙ ints_unqualified a)
-        (c.unqualified-second.ensures.is ∙ ap unqualified c.ints-ints_b.ensures.is ∙ ints_unqualified b)
+    c.unqualified-first.ensures.root c.unqualified-second.ensures.root
+    (c.unqualified-first.ensures.is ∙ ap unqualified c.ints-ints_a.ensures.is ∙ ints_unqualified a)
+    (c.unqualified-second.ensures.is ∙ ap unqualified c.ints-ints_b.ensures.is ∙ ints_unqualified b)

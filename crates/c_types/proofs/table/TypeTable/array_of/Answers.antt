@@ -22,7 +22,7 @@ returns-in-Array-clause-is c =
     let u : CType = type_at c.args.self.now.terms c.args.elements.0 in
     let is = rw c.in-Array.is at c.term.ensures.type_is in
     let e : t.Array u c.in-Array.count ≡ qualify c.args.qualifiers (type_at c.args.self.now.terms c.args.array.0) =
-        sym (ap (λ (s : CType). with_element s u) is) ∙ raised_is c.args.qualifiers (type_at c.args.self.now.terms c.args.array.0) u c.requires.is_array c.requires.raised in
+    sym (ap (λ (s : CType). with_element s u) is) ∙ raised_is c.args.qualifiers (type_at c.args.self.now.terms c.args.array.0) u c.requires.is_array c.requires.raised in
     rw e at c.intern.ensures.is
 
 pub returns-in-Flexible-clause-is : goal.returns-in-Flexible-clause-is
@@ -30,5 +30,5 @@ returns-in-Flexible-clause-is c =
     let u : CType = type_at c.args.self.now.terms c.args.elements.0 in
     let is = rw c.in-Flexible.is at c.term.ensures.type_is in
     let e : t.Flexible u ≡ qualify c.args.qualifiers (type_at c.args.self.now.terms c.args.array.0) =
-        sym (ap (λ (s : CType). with_element s u) is) ∙ raised_is c.args.qualifiers (type_at c.args.self.now.terms c.args.array.0) u c.requires.is_array c.requires.raised in
+    sym (ap (λ (s : CType). with_element s u) is) ∙ raised_is c.args.qualifiers (type_at c.args.self.now.terms c.args.array.0) u c.requires.is_array c.requires.raised in
     rw e at c.intern-in-Flexible.ensures.is

@@ -7,4 +7,4 @@ use Rattle.c_types.proofs.table.TypeTable.compatible.Goals as goal
 pub returns : goal.returns
 returns c =
     roots_equal c.args.self.now.terms (with_ints (canonical (type_at c.args.self.now.terms c.args.a.0))) (with_ints (canonical (type_at c.args.self.now.terms c.args.b.0))) c.ints-first.result.0 c.ints-second.result.0
-        c.ints-first.ensures.root c.ints-second.ensures.root c.ints-first.ensures.is c.ints-second.ensures.is
+    c.ints-first.ensures.root c.ints-second.ensures.root c.ints-first.ensures.is c.ints-second.ensures.is

@@ -10,4 +10,4 @@ returns-clause-within c =
     let members : c.self.inside.members.items ≡ c.args.self.now.members = ap (λ (t : Table). t.members) c.self.view_is in
     let is : record_of (type_at c.args.self.now.terms c.args.id.0) ≡ Some c.in-Some.number = sym c.fact-fact.ensures.record_is ∙ c.in-Some.is in
     finished_within c.args.self.now.layouts (record_of (type_at c.args.self.now.terms c.args.id.0)) c.in-Some.number (length c.args.self.now.members) c.requires.finished is
-        (sym (ap length members) ∙ c.self.invariant.members_long ∙ sym c.self.invariant.layouts_long ∙ ap length layouts)
+    (sym (ap length members) ∙ c.self.invariant.members_long ∙ sym c.self.invariant.layouts_long ∙ ap length layouts)
