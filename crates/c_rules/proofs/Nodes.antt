@@ -25,7 +25,6 @@ Runs A least last m = (k : A → World → Trials) → ((x : A) (w : World) → 
 abbrev pub RunsAt : (A : Type 0) → At → M A → Type 0
 RunsAt A at m = Runs A (128 * at.id + 64) (128 * suc at.id) m
 
-
 pub name_runs : (u : Whole) (at : At) (n : List ℕ) → RunsAt Typed at (judge_name u at n)
 name_runs u at n k after w = (omega arith, (omega arith, lower _ (128 * suc at.id) _ (omega arith) (after _ _)))
 

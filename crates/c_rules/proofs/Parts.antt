@@ -247,14 +247,28 @@ mutual
 
   pub type_part : (d : t.TypeName) (n : ℕ) (rest : List Piece) → Numbered n (pieces_type d rest) → TypePart d n rest
   type_part (t.type_name at ss t.no_declarator) n rest h =
-      let p : SpecsPart ss n (closes at ∷ rest) = specs_part ss n _ h in
-      (suc p.0, (p.1.0.1, λ u fixed k after w. p.1.1 u fixed None nothing_specified _ (λ s v. (omega (arith, p.1.0.0),
-        lower (suc (64 * (2 * at.id) + 3)) (128 * p.0 + 64) (judge_type at (base_type s) (record { name = None; name_at = at; layers = [] }) (λ ty x. k ty (note_type at.id ty x)) v) (omega (arith, p.1.0.0)) (ends CType at p.0 (judge_type at (base_type s) (record { name = None; name_at = at; layers = [] })) p.1.0.0 (type_runs at (base_type s) (record { name = None; name_at = at; layers = [] })) (λ ty x. k ty (note_type at.id ty x)) (λ ty x. after _ _) v))) w))
+      let p : SpecsPart ss n (closes at ∷ rest) = specs_part ss n _ h in (
+        suc p.0,
+        (
+          p.1.0.1,
+          λ u fixed k after w. p.1.1 u fixed None nothing_specified _ (λ s v. (
+            omega (arith, p.1.0.0),
+            lower (suc (64 * (2 * at.id) + 3)) (128 * p.0 + 64) (judge_type at (base_type s) (record { name = None; name_at = at; layers = [] }) (λ ty x. k ty (note_type at.id ty x)) v) (omega (arith, p.1.0.0)) (ends CType at p.0 (judge_type at (base_type s) (record { name = None; name_at = at; layers = [] })) p.1.0.0 (type_runs at (base_type s) (record { name = None; name_at = at; layers = [] })) (λ ty x. k ty (note_type at.id ty x)) (λ ty x. after _ _) v),
+          )) w,
+        ),
+      )
   type_part (t.type_name at ss (t.some_declarator d)) n rest h =
       let p : SpecsPart ss n (pieces_declarator d (closes at ∷ rest)) = specs_part ss n _ h in
-      let q : DeclaratorPart d p.0 (closes at ∷ rest) = declarator_part d p.0 _ p.1.0 in
-      (suc (suc (at_of d).id), (q.0.1, λ u fixed k after w. p.1.1 u fixed None nothing_specified _ (λ s v. (omega (arith, q.1.0),
-        lower _ (128 * p.0 + 64) _ (omega (arith, q.1.0)) (q.1.1 u fixed _ (λ l x. type_runs (at_of d) (base_type s) l (λ ty y. k ty (note_type at.id ty y)) (λ ty y. lower _ (128 * suc (suc (at_of d).id)) _ (omega arith) (after _ _)) x) v))) w))
+      let q : DeclaratorPart d p.0 (closes at ∷ rest) = declarator_part d p.0 _ p.1.0 in (
+        suc (suc (at_of d).id),
+        (
+          q.0.1,
+          λ u fixed k after w. p.1.1 u fixed None nothing_specified _ (λ s v. (
+            omega (arith, q.1.0),
+            lower _ (128 * p.0 + 64) _ (omega (arith, q.1.0)) (q.1.1 u fixed _ (λ l x. type_runs (at_of d) (base_type s) l (λ ty y. k ty (note_type at.id ty y)) (λ ty y. lower _ (128 * suc (suc (at_of d).id)) _ (omega arith) (after _ _)) x) v),
+          )) w,
+        ),
+      )
 
   pub specs_part : (ss : t.Specs) (n : ℕ) (rest : List Piece) → Numbered n (pieces_specs ss rest) → SpecsPart ss n rest
   specs_part t.no_specs n rest h = (n, (h, λ u fixed own s k after w. after _ _))
@@ -290,17 +304,31 @@ mutual
   fields_part t.no_fields n rest h = (n, (h, λ u fixed k after w. after _ _))
   fields_part (t.Field at ss t.no_declarators fs) n rest h =
       let p : SpecsPart ss n (token (mark g.Semi) ∷ closes at ∷ pieces_fields fs rest) = specs_part ss n _ h in
-      let f : FieldsPart fs (suc p.0) rest = fields_part fs (suc p.0) rest p.1.0.1 in
-      (f.0, (f.1.0, λ u fixed k after w. p.1.1 u fixed None nothing_specified _ (λ s v. (omega (arith, p.1.0.0),
-        lower _ (128 * suc p.0) _ (omega (arith, p.1.0.0)) (f.1.1 u fixed _ (λ ns x. after _ _) v))) w))
+      let f : FieldsPart fs (suc p.0) rest = fields_part fs (suc p.0) rest p.1.0.1 in (
+        f.0,
+        (
+          f.1.0,
+          λ u fixed k after w. p.1.1 u fixed None nothing_specified _ (λ s v. (
+            omega (arith, p.1.0.0),
+            lower _ (128 * suc p.0) _ (omega (arith, p.1.0.0)) (f.1.1 u fixed _ (λ ns x. after _ _) v),
+          )) w,
+        ),
+      )
   fields_part (t.Field at ss (t.declarator d ds) fs) n rest h =
       let p : SpecsPart ss n (pieces_declarator d (pieces_more_declarators ds (token (mark g.Semi) ∷ closes at ∷ pieces_fields fs rest))) = specs_part ss n _ h in
       let q : DeclaratorPart d p.0 (pieces_more_declarators ds (token (mark g.Semi) ∷ closes at ∷ pieces_fields fs rest)) = declarator_part d p.0 _ p.1.0 in
       let r : MembersPart ds (suc (at_of d).id) (token (mark g.Semi) ∷ closes at ∷ pieces_fields fs rest) = more_members_part ds (suc (at_of d).id) _ q.0 in
-      let f : FieldsPart fs (suc r.0) rest = fields_part fs (suc r.0) rest r.1.0.1 in
-      (f.0, (f.1.0, λ u fixed k after w. p.1.1 u fixed None nothing_specified _ (λ s v. (omega (arith, q.1.0),
-        lower _ (128 * p.0 + 64) _ (omega (arith, q.1.0)) (q.1.1 u fixed _ (λ l x. member_runs (at_of d) (base_type s) l (λ m y. judge_members u fixed (base_type s) ds (λ ms z. judge_fields u fixed fs (λ ns a. k ((m ∷ ms) ++ ns) a) z) y) (λ m y. r.1.1 u fixed (base_type s) _
-          (λ ms z. lower _ (128 * suc r.0) _ (omega arith) (f.1.1 u fixed _ (λ ns a. after _ _) z)) y) x) v))) w))
+      let f : FieldsPart fs (suc r.0) rest = fields_part fs (suc r.0) rest r.1.0.1 in (
+        f.0,
+        (
+          f.1.0,
+          λ u fixed k after w. p.1.1 u fixed None nothing_specified _ (λ s v. (
+            omega (arith, q.1.0),
+            lower _ (128 * p.0 + 64) _ (omega (arith, q.1.0)) (q.1.1 u fixed _ (λ l x. member_runs (at_of d) (base_type s) l (λ m y. judge_members u fixed (base_type s) ds (λ ms z. judge_fields u fixed fs (λ ns a. k ((m ∷ ms) ++ ns) a) z) y) (λ m y. r.1.1 u fixed (base_type s) _
+                (λ ms z. lower _ (128 * suc r.0) _ (omega arith) (f.1.1 u fixed _ (λ ns a. after _ _) z)) y) x) v),
+          )) w,
+        ),
+      )
 
   more_members_part : (ds : t.Declarators) (n : ℕ) (rest : List Piece) → Numbered n (pieces_more_declarators ds rest) → MembersPart ds n rest
   more_members_part t.no_declarators n rest h = (n, (h, λ u fixed base k after w. after _ _))
@@ -354,41 +382,79 @@ mutual
       (rw q.0.0 q.0.1, (q.1.0, λ u fixed k after w. q.1.1 u fixed _ (λ l v. lower _ (128 * at.id + 64) _ (omega (arith, q.0.0)) (after _ _)) w))
   declarator_part (t.ArrayOf at d (t.some_expr a)) n rest h =
       let q : DeclaratorPart d n (token (mark g.LBracket) ∷ pieces a (token (mark g.RBracket) ∷ closes at ∷ rest)) = declarator_part d n _ h in
-      let p : ExprPart a (suc (at_of d).id) (token (mark g.RBracket) ∷ closes at ∷ rest) = expr_part a (suc (at_of d).id) _ q.0 in
-      (rw p.1.0.0 p.1.0.1, (q.1.0, λ u fixed k after w. q.1.1 u fixed _ (λ l v. lower _ (128 * suc (at_of d).id) _ (omega arith)
-        (p.1.1 u true _ (λ x s. lower _ (128 * at.id + 64) _ (omega (arith, p.1.0.0)) (after _ _)) v)) w))
+      let p : ExprPart a (suc (at_of d).id) (token (mark g.RBracket) ∷ closes at ∷ rest) = expr_part a (suc (at_of d).id) _ q.0 in (
+        rw p.1.0.0 p.1.0.1,
+        (
+          q.1.0,
+          λ u fixed k after w. q.1.1 u fixed _ (λ l v. lower _ (128 * suc (at_of d).id) _ (omega arith)
+              (p.1.1 u true _ (λ x s. lower _ (128 * at.id + 64) _ (omega (arith, p.1.0.0)) (after _ _)) v)) w,
+        ),
+      )
   declarator_part (t.FunctionOf at d ps) n rest h =
       let q : DeclaratorPart d n (token (mark g.LParen) ∷ pieces_params ps (token (mark g.RParen) ∷ closes at ∷ rest)) = declarator_part d n _ h in
-      let p : ParamsPart ps (suc (at_of d).id) (token (mark g.RParen) ∷ closes at ∷ rest) = params_part ps (suc (at_of d).id) _ q.0 in
-      (rw p.1.0.0 p.1.0.1, (q.1.0, λ u fixed k after w. q.1.1 u fixed _ (λ l v. lower _ (128 * suc (at_of d).id) _ (omega arith)
-        (p.1.1 u fixed 0 _ (λ x s. lower _ (128 * at.id + 64) _ (omega (arith, p.1.0.0)) (after _ _)) _)) w))
+      let p : ParamsPart ps (suc (at_of d).id) (token (mark g.RParen) ∷ closes at ∷ rest) = params_part ps (suc (at_of d).id) _ q.0 in (
+        rw p.1.0.0 p.1.0.1,
+        (
+          q.1.0,
+          λ u fixed k after w. q.1.1 u fixed _ (λ l v. lower _ (128 * suc (at_of d).id) _ (omega arith)
+              (p.1.1 u fixed 0 _ (λ x s. lower _ (128 * at.id + 64) _ (omega (arith, p.1.0.0)) (after _ _)) _)) w,
+        ),
+      )
 
   params_part : (ps : t.Params) (n : ℕ) (rest : List Piece) → Numbered n (pieces_params ps rest) → ParamsPart ps n rest
   params_part t.no_params n rest h = (n, (h, λ u fixed place k after w. after _ _))
   params_part (t.Param at ss t.no_declarator ps) n rest h =
       let p : SpecsPart ss n (closes at ∷ pieces_more_params ps rest) = specs_part ss n _ h in
-      let r : ParamsPart ps (suc p.0) rest = more_params_part ps (suc p.0) rest p.1.0.1 in
-      (r.0, (r.1.0, λ u fixed place k after w. p.1.1 u fixed None nothing_specified _ (λ s v. (omega (arith, p.1.0.0),
-        lower _ (128 * at.id + 64) _ (omega (arith, p.1.0.0)) (param_or_void_runs (place == 0 && is_alone t.no_declarator ps && is_nothing (base_type s)) (length v.objects) at (base_type s) (record { name = None; name_at = at; layers = [] }) (λ qs x. judge_params u fixed (suc place) ps (λ rs y. k (qs ++ rs) y) x) (λ qs x. lower _ (128 * suc p.0) _ (omega (arith, p.1.0.0)) (r.1.1 u fixed (suc place) _ (λ rs y. after _ _) x)) _))) w))
+      let r : ParamsPart ps (suc p.0) rest = more_params_part ps (suc p.0) rest p.1.0.1 in (
+        r.0,
+        (
+          r.1.0,
+          λ u fixed place k after w. p.1.1 u fixed None nothing_specified _ (λ s v. (
+            omega (arith, p.1.0.0),
+            lower _ (128 * at.id + 64) _ (omega (arith, p.1.0.0)) (param_or_void_runs (place == 0 && is_alone t.no_declarator ps && is_nothing (base_type s)) (length v.objects) at (base_type s) (record { name = None; name_at = at; layers = [] }) (λ qs x. judge_params u fixed (suc place) ps (λ rs y. k (qs ++ rs) y) x) (λ qs x. lower _ (128 * suc p.0) _ (omega (arith, p.1.0.0)) (r.1.1 u fixed (suc place) _ (λ rs y. after _ _) x)) _),
+          )) w,
+        ),
+      )
   params_part (t.Param at ss (t.some_declarator d) ps) n rest h =
       let p : SpecsPart ss n (pieces_declarator d (closes at ∷ pieces_more_params ps rest)) = specs_part ss n _ h in
       let q : DeclaratorPart d p.0 (closes at ∷ pieces_more_params ps rest) = declarator_part d p.0 _ p.1.0 in
-      let r : ParamsPart ps (suc (suc (at_of d).id)) rest = more_params_part ps (suc (suc (at_of d).id)) rest q.0.1 in
-      (r.0, (r.1.0, λ u fixed place k after w. p.1.1 u fixed None nothing_specified _ (λ s v. (omega (arith, q.1.0),
-        lower _ (128 * p.0 + 64) _ (omega (arith, q.1.0)) (q.1.1 u fixed _ (λ l x. param_or_void_runs (place == 0 && is_alone (t.some_declarator d) ps && is_nothing (base_type s)) (length v.objects) (at_of d) (base_type s) l (λ qs y. judge_params u fixed (suc place) ps (λ rs z. k (qs ++ rs) z) y)
-          (λ qs y. lower _ (128 * suc (suc (at_of d).id)) _ (omega arith) (r.1.1 u fixed (suc place) _ (λ rs z. after _ _) y)) x) _))) w))
+      let r : ParamsPart ps (suc (suc (at_of d).id)) rest = more_params_part ps (suc (suc (at_of d).id)) rest q.0.1 in (
+        r.0,
+        (
+          r.1.0,
+          λ u fixed place k after w. p.1.1 u fixed None nothing_specified _ (λ s v. (
+            omega (arith, q.1.0),
+            lower _ (128 * p.0 + 64) _ (omega (arith, q.1.0)) (q.1.1 u fixed _ (λ l x. param_or_void_runs (place == 0 && is_alone (t.some_declarator d) ps && is_nothing (base_type s)) (length v.objects) (at_of d) (base_type s) l (λ qs y. judge_params u fixed (suc place) ps (λ rs z. k (qs ++ rs) z) y)
+                (λ qs y. lower _ (128 * suc (suc (at_of d).id)) _ (omega arith) (r.1.1 u fixed (suc place) _ (λ rs z. after _ _) y)) x) _),
+          )) w,
+        ),
+      )
 
   more_params_part : (ps : t.Params) (n : ℕ) (rest : List Piece) → Numbered n (pieces_more_params ps rest) → ParamsPart ps n rest
   more_params_part t.no_params n rest h = (n, (h, λ u fixed place k after w. after _ _))
   more_params_part (t.Param at ss t.no_declarator ps) n rest h =
       let p : SpecsPart ss n (closes at ∷ pieces_more_params ps rest) = specs_part ss n _ h in
-      let r : ParamsPart ps (suc p.0) rest = more_params_part ps (suc p.0) rest p.1.0.1 in
-      (r.0, (r.1.0, λ u fixed place k after w. p.1.1 u fixed None nothing_specified _ (λ s v. (omega (arith, p.1.0.0),
-        lower _ (128 * at.id + 64) _ (omega (arith, p.1.0.0)) (param_or_void_runs (place == 0 && is_alone t.no_declarator ps && is_nothing (base_type s)) (length v.objects) at (base_type s) (record { name = None; name_at = at; layers = [] }) (λ qs x. judge_params u fixed (suc place) ps (λ rs y. k (qs ++ rs) y) x) (λ qs x. lower _ (128 * suc p.0) _ (omega (arith, p.1.0.0)) (r.1.1 u fixed (suc place) _ (λ rs y. after _ _) x)) _))) w))
+      let r : ParamsPart ps (suc p.0) rest = more_params_part ps (suc p.0) rest p.1.0.1 in (
+        r.0,
+        (
+          r.1.0,
+          λ u fixed place k after w. p.1.1 u fixed None nothing_specified _ (λ s v. (
+            omega (arith, p.1.0.0),
+            lower _ (128 * at.id + 64) _ (omega (arith, p.1.0.0)) (param_or_void_runs (place == 0 && is_alone t.no_declarator ps && is_nothing (base_type s)) (length v.objects) at (base_type s) (record { name = None; name_at = at; layers = [] }) (λ qs x. judge_params u fixed (suc place) ps (λ rs y. k (qs ++ rs) y) x) (λ qs x. lower _ (128 * suc p.0) _ (omega (arith, p.1.0.0)) (r.1.1 u fixed (suc place) _ (λ rs y. after _ _) x)) _),
+          )) w,
+        ),
+      )
   more_params_part (t.Param at ss (t.some_declarator d) ps) n rest h =
       let p : SpecsPart ss n (pieces_declarator d (closes at ∷ pieces_more_params ps rest)) = specs_part ss n _ h in
       let q : DeclaratorPart d p.0 (closes at ∷ pieces_more_params ps rest) = declarator_part d p.0 _ p.1.0 in
-      let r : ParamsPart ps (suc (suc (at_of d).id)) rest = more_params_part ps (suc (suc (at_of d).id)) rest q.0.1 in
-      (r.0, (r.1.0, λ u fixed place k after w. p.1.1 u fixed None nothing_specified _ (λ s v. (omega (arith, q.1.0),
-        lower _ (128 * p.0 + 64) _ (omega (arith, q.1.0)) (q.1.1 u fixed _ (λ l x. param_or_void_runs (place == 0 && is_alone (t.some_declarator d) ps && is_nothing (base_type s)) (length v.objects) (at_of d) (base_type s) l (λ qs y. judge_params u fixed (suc place) ps (λ rs z. k (qs ++ rs) z) y)
-          (λ qs y. lower _ (128 * suc (suc (at_of d).id)) _ (omega arith) (r.1.1 u fixed (suc place) _ (λ rs z. after _ _) y)) x) _))) w))
+      let r : ParamsPart ps (suc (suc (at_of d).id)) rest = more_params_part ps (suc (suc (at_of d).id)) rest q.0.1 in (
+        r.0,
+        (
+          r.1.0,
+          λ u fixed place k after w. p.1.1 u fixed None nothing_specified _ (λ s v. (
+            omega (arith, q.1.0),
+            lower _ (128 * p.0 + 64) _ (omega (arith, q.1.0)) (q.1.1 u fixed _ (λ l x. param_or_void_runs (place == 0 && is_alone (t.some_declarator d) ps && is_nothing (base_type s)) (length v.objects) (at_of d) (base_type s) l (λ qs y. judge_params u fixed (suc place) ps (λ rs z. k (qs ++ rs) z) y)
+                (λ qs y. lower _ (128 * suc (suc (at_of d).id)) _ (omega arith) (r.1.1 u fixed (suc place) _ (λ rs z. after _ _) y)) x) _),
+          )) w,
+        ),
+      )

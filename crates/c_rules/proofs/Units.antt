@@ -86,10 +86,15 @@ BehindPart x rest = (j : ℕ) × (Numbered j rest × ((u : Whole) (s : Specified
 behind_part : (x : t.Item) (rest : List Piece) → Numbered (suc (at_of x.declarator).id) (pieces_all pieces_attribute x.attributes (pieces_maybe_init x.init (closes x.at ∷ rest))) → BehindPart x rest
 behind_part x rest h =
     let p : Part (Unit {0}) (suc (at_of x.declarator).id) (pieces_maybe_init x.init (closes x.at ∷ rest)) (judge_attributes x.attributes) = attributes_part x.attributes _ _ h in
-    let q : MaybeInitPart x.init p.0 (closes x.at ∷ rest) = maybe_init_part x.init p.0 _ p.1.0 in
-    (suc q.0, (q.1.0.1, λ u s what number d b fixed static k after w. declared_runs u what number (at_of x.declarator) d b fixed _
-      (λ r v. judge_attributes x.attributes (λ r2 v2. judge_item_init u x.at what b.type static x.init k v2) v)
-      (λ r v. p.1.1 _ (λ r2 v2. q.1.1 u x.at what b.type static q.1.0.0 k after v2) v) w))
+    let q : MaybeInitPart x.init p.0 (closes x.at ∷ rest) = maybe_init_part x.init p.0 _ p.1.0 in (
+      suc q.0,
+      (
+        q.1.0.1,
+        λ u s what number d b fixed static k after w. declared_runs u what number (at_of x.declarator) d b fixed _
+            (λ r v. judge_attributes x.attributes (λ r2 v2. judge_item_init u x.at what b.type static x.init k v2) v)
+            (λ r v. p.1.1 _ (λ r2 v2. q.1.1 u x.at what b.type static q.1.0.0 k after v2) v) w,
+      ),
+    )
 
 abbrev ItemPart : t.Item → ℕ → List Piece → Type 0
 ItemPart x n rest = (j : ℕ) × (Numbered j rest × ((name_node x.declarator ≡ n) × ((u : Whole) (s : Specified) (base : CType) → Runs (Unit {0}) (128 * n + 64) (128 * j) (judge_item u s base x))))
@@ -97,9 +102,17 @@ ItemPart x n rest = (j : ℕ) × (Numbered j rest × ((name_node x.declarator �
 item_part : (x : t.Item) (n : ℕ) (rest : List Piece) → Numbered n (pieces_item x rest) → ItemPart x n rest
 item_part x n rest h =
     let q : DeclaratorPart x.declarator n (pieces_all pieces_attribute x.attributes (pieces_maybe_init x.init (closes x.at ∷ rest))) = declarator_part x.declarator n _ h in
-    let p : BehindPart x rest = behind_part x rest q.0 in
-    (p.0, (p.1.0, (q.1.0, λ u s base k after w. q.1.1 u false _ (λ d v. p.1.1 u s (declares (has is_typedef s.words) base d.layers) (length w.objects) d
-      (sized v (given_length (built v base d.layers).type x.init) (built v base d.layers)) (is_fixed_here v u s d) (is_static_here v s) k after v) _)))
+    let p : BehindPart x rest = behind_part x rest q.0 in (
+      p.0,
+      (
+        p.1.0,
+        (
+          q.1.0,
+          λ u s base k after w. q.1.1 u false _ (λ d v. p.1.1 u s (declares (has is_typedef s.words) base d.layers) (length w.objects) d
+              (sized v (given_length (built v base d.layers).type x.init) (built v base d.layers)) (is_fixed_here v u s d) (is_static_here v s) k after v) _,
+        ),
+      ),
+    )
 
 abbrev ItemsPart : List t.Item → ℕ → List Piece → Type 0
 ItemsPart xs n rest = (j : ℕ) × (Numbered j rest × ((u : Whole) (s : Specified) (base : CType) → Runs (Unit {0}) (128 * n) (128 * j) (judge_items u s base xs)))
@@ -121,10 +134,17 @@ declaration_of at ss [] n rest h =
 declaration_of at ss (x ∷ xs) n rest h =
     let p : SpecsPart ss n (pieces_item x (pieces_more pieces_item xs (token (mark g.Semi) ∷ closes at ∷ rest))) = specs_part ss n _ h in
     let q : ItemPart x p.0 (pieces_more pieces_item xs (token (mark g.Semi) ∷ closes at ∷ rest)) = item_part x p.0 _ p.1.0 in
-    let r : ItemsPart xs q.0 (token (mark g.Semi) ∷ closes at ∷ rest) = more_items_part xs q.0 _ q.1.0 in
-    (suc r.0, (r.1.0.1, λ u k after w. p.1.1 u false (own_name ss (x ∷ xs)) nothing_specified _ (λ s v. (omega (arith, q.1.1.0),
-      lower _ (128 * p.0 + 64) _ (omega (arith, q.1.1.0)) (q.1.1.1 u s (base_type s) (λ a y. judge_items u s (base_type s) xs k y)
-        (λ a y. r.1.1 u s (base_type s) k (λ b z. lower _ (128 * suc r.0) _ (omega arith) (after b z)) y) v))) w))
+    let r : ItemsPart xs q.0 (token (mark g.Semi) ∷ closes at ∷ rest) = more_items_part xs q.0 _ q.1.0 in (
+      suc r.0,
+      (
+        r.1.0.1,
+        λ u k after w. p.1.1 u false (own_name ss (x ∷ xs)) nothing_specified _ (λ s v. (
+          omega (arith, q.1.1.0),
+          lower _ (128 * p.0 + 64) _ (omega (arith, q.1.1.0)) (q.1.1.1 u s (base_type s) (λ a y. judge_items u s (base_type s) xs k y)
+              (λ a y. r.1.1 u s (base_type s) k (λ b z. lower _ (128 * suc r.0) _ (omega arith) (after b z)) y) v),
+        )) w,
+      ),
+    )
 
 declaration_part : (d : t.Declaration) (n : ℕ) (rest : List Piece) → Numbered n (pieces_declaration d rest) → DeclarationPart d n rest
 declaration_part d n rest h = declaration_of d.at d.specs d.items n rest h
@@ -184,9 +204,14 @@ mutual
       let b : FirstPart f n (pieces_maybe c (token (mark g.Semi) ∷ pieces_maybe e (token (mark g.RParen) ∷ pieces_stmt s (closes at ∷ rest)))) = first_part f n _ h in
       let p : MaybePart c b.0 (token (mark g.Semi) ∷ pieces_maybe e (token (mark g.RParen) ∷ pieces_stmt s (closes at ∷ rest))) = maybe_part c b.0 _ b.1.0 in
       let o : MaybePart e p.0 (token (mark g.RParen) ∷ pieces_stmt s (closes at ∷ rest)) = maybe_part e p.0 _ p.1.0 in
-      let q : StmtPart s o.0 (closes at ∷ rest) = stmt_part s o.0 _ o.1.0 in
-      (suc q.0, (q.1.0.1, λ a k after w. b.1.1 a.whole _ (λ r v. p.1.1 a.whole _ (λ x y. o.1.1 a.whole _ (λ x2 y2. q.1.1 (in_loop a) _
-        (λ x3 y3. (omega (arith, q.1.0.0), lower _ (128 * suc q.0) _ (omega (arith, q.1.0.0)) (after _ _))) _) y) v) _))
+      let q : StmtPart s o.0 (closes at ∷ rest) = stmt_part s o.0 _ o.1.0 in (
+        suc q.0,
+        (
+          q.1.0.1,
+          λ a k after w. b.1.1 a.whole _ (λ r v. p.1.1 a.whole _ (λ x y. o.1.1 a.whole _ (λ x2 y2. q.1.1 (in_loop a) _
+              (λ x3 y3. (omega (arith, q.1.0.0), lower _ (128 * suc q.0) _ (omega (arith, q.1.0.0)) (after _ _))) _) y) v) _,
+        ),
+      )
   stmt_part (t.Break at) n rest h = (suc n, (h.1, λ a k after w. (omega (arith, h.0), lower _ (128 * suc n) _ (omega (arith, h.0)) (after _ _))))
   stmt_part (t.Continue at) n rest h = (suc n, (h.1, λ a k after w. (omega (arith, h.0), lower _ (128 * suc n) _ (omega (arith, h.0)) (after _ _))))
   stmt_part (t.Return at e) n rest h =
@@ -214,12 +239,19 @@ external_part (t.Declares d) n rest h = declaration_part d n rest h
 external_part (t.Definition at ss d body items) n rest h =
     let p : SpecsPart ss n (pieces_declarator d (opens body ∷ token (mark g.LBrace) ∷ pieces_block items (token (mark g.RBrace) ∷ closes body ∷ closes at ∷ rest))) = specs_part ss n _ h in
     let q : DeclaratorPart d p.0 (opens body ∷ token (mark g.LBrace) ∷ pieces_block items (token (mark g.RBrace) ∷ closes body ∷ closes at ∷ rest)) = declarator_part d p.0 _ p.1.0 in
-    let r : BlockPart items (suc (at_of d).id) (token (mark g.RBrace) ∷ closes body ∷ closes at ∷ rest) = block_part items (suc (at_of d).id) _ q.0 in
-    (suc (suc r.0), (r.1.0.1.1, λ u k after w. p.1.1 u false None nothing_specified _ (λ s v. (omega (arith, q.1.0),
-      lower _ (128 * p.0 + 64) _ (omega (arith, q.1.0)) (q.1.1 u false _ (λ l x. declared_runs u a_function 0 (at_of d) l (built x (base_type s) l.layers) false true
-        (λ a y. judge_body u (built x (base_type s) l.layers).type (names_of l.layers) items k y)
-        (λ a y. r.1.1 (record { whole = u; result = result_of (plain (built x (base_type s) l.layers).type); in_loop = false }) _
-          (λ b z. lower _ (128 * suc (suc r.0)) _ (omega arith) (after _ _)) _) x) v))) w))
+    let r : BlockPart items (suc (at_of d).id) (token (mark g.RBrace) ∷ closes body ∷ closes at ∷ rest) = block_part items (suc (at_of d).id) _ q.0 in (
+      suc (suc r.0),
+      (
+        r.1.0.1.1,
+        λ u k after w. p.1.1 u false None nothing_specified _ (λ s v. (
+          omega (arith, q.1.0),
+          lower _ (128 * p.0 + 64) _ (omega (arith, q.1.0)) (q.1.1 u false _ (λ l x. declared_runs u a_function 0 (at_of d) l (built x (base_type s) l.layers) false true
+              (λ a y. judge_body u (built x (base_type s) l.layers).type (names_of l.layers) items k y)
+              (λ a y. r.1.1 (record { whole = u; result = result_of (plain (built x (base_type s) l.layers).type); in_loop = false }) _
+              (λ b z. lower _ (128 * suc (suc r.0)) _ (omega arith) (after _ _)) _) x) v),
+        )) w,
+      ),
+    )
 
 abbrev ExternalsPart : List t.External → ℕ → List Piece → Type 0
 ExternalsPart xs n rest = (j : ℕ) × (Numbered j rest × ((u : Whole) → Runs (Unit {0}) (128 * n) (128 * j) (judge_externals u xs)))

@@ -121,10 +121,10 @@ converts to x = fits (plain to) (settled x.type) x
 abbrev pub can_be_cast : CType → Typed → Bool
 can_be_cast to x = casts (plain to) (settled x.type)
   where
-  casts : CType → CType → Bool
-  casts t a =
-      is_void t || are_integers t a || (is_object_pointer t && is_object_pointer a) || (is_function_pointer t && is_function_pointer a)
-      || is_beside_null t x || (is_bool t && is_pointer a)
+    casts : CType → CType → Bool
+    casts t a =
+        is_void t || are_integers t a || (is_object_pointer t && is_object_pointer a) || (is_function_pointer t && is_function_pointer a)
+        || is_beside_null t x || (is_bool t && is_pointer a)
 
 -- 27: a pointer to a function with so many parameters
 abbrev pub can_be_called : CType → ℕ → Bool

@@ -62,9 +62,9 @@ number_in i n (x ∷ xs) = if same_text n x.name then Some i else number_in (suc
 abbrev pub function_binding : Whole → List ℕ → ℕ → Binding
 function_binding whole n number = of_library (if is_listed n whole.bodies then None else number_in 0 n library)
   where
-  of_library : Option ℕ → Binding
-  of_library (Some i) = to_library i
-  of_library None = to_function number
+    of_library : Option ℕ → Binding
+    of_library (Some i) = to_library i
+    of_library None = to_function number
 
 abbrev pub bound : Whole → List ℕ → Sort → Option Binding
 bound whole n (world.Object i is_fixed) = Some (to_object i)
@@ -84,11 +84,11 @@ abbrev pub typed_entry : Whole → List ℕ → World → Option Entry → Typed
 typed_entry whole n w None = value_of (Int k.Int)
 typed_entry whole n w (Some e) = of_sort e.sort e.type
   where
-  of_sort : Sort → CType → Typed
-  of_sort (world.Object i is_fixed) t = lvalue_of t (fixed_address w is_fixed i t)
-  of_sort (world.Function i) t = pointer_of t (a.function_address (function_binding whole n i))
-  of_sort (world.Enumerator z) t = constant_of t (is z)
-  of_sort world.Alias t = value_of t
+    of_sort : Sort → CType → Typed
+    of_sort (world.Object i is_fixed) t = lvalue_of t (fixed_address w is_fixed i t)
+    of_sort (world.Function i) t = pointer_of t (a.function_address (function_binding whole n i))
+    of_sort (world.Enumerator z) t = constant_of t (is z)
+    of_sort world.Alias t = value_of t
 
 abbrev pub judge_name : Whole → At → List ℕ → M Typed
 judge_name whole at n = do
@@ -199,9 +199,12 @@ abbrev pub judge_cast : At → CType → Typed → M Typed
 judge_cast at t x = do
   keep 26 at (can_be_cast t x)
   done at (record {
-    type = t; is_lvalue = false; value = cast_constant t x.value;
+    type = t;
+    is_lvalue = false;
+    value = cast_constant t x.value;
     is_null = equal (canonical t) (Pointer Void) && is_zero_constant x.value;
-    address = cast_address t x; text = None;
+    address = cast_address t x;
+    text = None;
   })
 
 -- ---- operators with two operands

@@ -23,6 +23,12 @@ pub record Known : Type 0 where
 
 abbrev pub known : World → Known
 known w = record {
-  records = w.records; enums = w.enums; objects = w.objects; functions = w.functions;
-  types = w.types; targets = w.targets; bindings = w.bindings; constants = w.constants;
+  records = w.records;
+  enums = w.enums;
+  objects = w.objects;
+  functions = w.functions;
+  types = w.types;
+  targets = w.targets;
+  bindings = w.bindings;
+  constants = w.constants;
 }

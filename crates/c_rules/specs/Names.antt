@@ -155,9 +155,9 @@ fast_type (Some n) =
 abbrev pub fast_entry_point : List ℕ → Option CType
 fast_entry_point n = fast_type (behind (without_front (codes "__alloc_token_") n))
   where
-  behind : Option (List ℕ) → Option (List ℕ)
-  behind None = None
-  behind (Some m) = behind_token 0 false m
+    behind : Option (List ℕ) → Option (List ℕ)
+    behind None = None
+    behind (Some m) = behind_token 0 false m
 
 abbrev pub first_of : Option CType → Option CType → Option CType
 first_of (Some t) u = Some t

@@ -68,12 +68,13 @@ pointer_of t a = record (value_of t) { address = a }
 abbrev pub pointed : Typed → Address
 pointed x = pointed_by (x.is_lvalue && not_array (is_array (plain x.type))) x.address
   where
-  not_array : Bool → Bool
-  not_array true = false
-  not_array false = true
-  pointed_by : Bool → Address → Address
-  pointed_by true a = no_address
-  pointed_by false a = a
+    not_array : Bool → Bool
+    not_array true = false
+    not_array false = true
+
+    pointed_by : Bool → Address → Address
+    pointed_by true a = no_address
+    pointed_by false a = a
 
 -- so many bytes further, where that is in the object or at its end (6.5.6, paragraph 8)
 abbrev pub within : ℕ → ℤ → Bool
@@ -110,9 +111,10 @@ pointer_value (in_object n size at) = Some (object_at n at)
 abbrev pub constant_value : Typed → Option ConstantValue
 constant_value x = of_value x.value
   where
-  of_pointer : Option ConstantValue
-  of_pointer = if x.is_null then Some null_pointer else pointer_value (pointed x)
-  of_value : Constant → Option ConstantValue
-  of_value (is z) = Some (number z)
-  of_value varies = of_pointer
-  of_value undefined = of_pointer
+    of_pointer : Option ConstantValue
+    of_pointer = if x.is_null then Some null_pointer else pointer_value (pointed x)
+
+    of_value : Constant → Option ConstantValue
+    of_value (is z) = Some (number z)
+    of_value varies = of_pointer
+    of_value undefined = of_pointer

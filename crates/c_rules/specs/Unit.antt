@@ -232,8 +232,8 @@ judge_item u s base item = do
   d ← judge_layers u false item.declarator
   w ← world
   judge_item_of u s item (declares (has is_typedef s.words) base d.layers) number d
-    (sized w (given_length (built w base d.layers).type item.init) (built w base d.layers))
-    (is_fixed_here w u s d) (is_static_here w s)
+      (sized w (given_length (built w base d.layers).type item.init) (built w base d.layers))
+      (is_fixed_here w u s d) (is_static_here w s)
 
 abbrev pub judge_items : Whole → Specified → CType → List t.Item → M (Unit {0})
 judge_items u s base [] = give tt
@@ -386,9 +386,9 @@ abbrev pub names_of : List Layer → List Entry
 names_of [] = []
 names_of (l ∷ ls) = of_layer l
   where
-  of_layer : Layer → List Entry
-  of_layer (function ts es) = es
-  of_layer m = []
+    of_layer : Layer → List Entry
+    of_layer (function ts es) = es
+    of_layer m = []
 
 abbrev pub with_names : List Entry → World → World
 with_names [] w = w
@@ -497,7 +497,7 @@ judge_main true u = do
 abbrev pub trials : (need_main : Bool) → ℕ → List t.External → Trials
 trials need_main nodes u = both (λ _ w. over w) (start nodes)
   where
-  both : M (Unit {0})
-  both = do
-    judge_externals (whole_of u) u
-    judge_main need_main u
+    both : M (Unit {0})
+    both = do
+      judge_externals (whole_of u) u
+      judge_main need_main u

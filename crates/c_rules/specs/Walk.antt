@@ -83,9 +83,9 @@ judge_built at what b = do
 abbrev pub note_nameless : Laid → CType → World → World
 note_nameless d ty w = of_layers d.layers
   where
-  of_layers : List Layer → World
-  of_layers [] = w
-  of_layers (l ∷ ls) = note_type d.name_at.id ty w
+    of_layers : List Layer → World
+    of_layers [] = w
+    of_layers (l ∷ ls) = note_type d.name_at.id ty w
 
 abbrev pub judge_type : At → CType → Laid → M CType
 judge_type at base d = do
@@ -173,9 +173,9 @@ abbrev pub new_record : Bool → (tag own : Option (List ℕ)) → World → Wor
 new_record is_union tag own w =
     with_tag tag (count_unnamed tag own (record w { records = with_declared is_union (spelled_name w.unnamed tag own) w.records }))
   where
-  with_tag : Option (List ℕ) → World → World
-  with_tag None v = v
-  with_tag (Some n) v = record v { tags = record { name = n; sort = tag_sort is_union; number = length w.records.heads } ∷ v.tags }
+    with_tag : Option (List ℕ) → World → World
+    with_tag None v = v
+    with_tag (Some n) v = record v { tags = record { name = n; sort = tag_sort is_union; number = length w.records.heads } ∷ v.tags }
 
 abbrev pub tag_found : World → Option (List ℕ) → Option Tag
 tag_found w tag = option_and_then (λ n. find_tag n w.tags) tag
@@ -228,8 +228,8 @@ judge_member at base d = do
   change (note_type d.name_at.id (built w base d.layers).type)
   give (record { name = unwrap_or d.name []; type = (built w base d.layers).type })
   where
-  closed : World → Built → Built
-  closed w b = record b { is_closed = b.is_closed && not (is_open_struct w b.type) }
+    closed : World → Built → Built
+    closed w b = record b { is_closed = b.is_closed && not (is_open_struct w b.type) }
 
 -- ---- enumerations
 
@@ -237,9 +237,9 @@ abbrev pub new_enum : (tag own : Option (List ℕ)) → World → World
 new_enum tag own w =
     with_tag tag (count_unnamed tag own (record w { enums = w.enums ++ record { name = spelled_name w.unnamed tag own; is_defined = false } ∷ [] }))
   where
-  with_tag : Option (List ℕ) → World → World
-  with_tag None v = v
-  with_tag (Some n) v = record v { tags = record { name = n; sort = Enumeration; number = length w.enums } ∷ v.tags }
+    with_tag : Option (List ℕ) → World → World
+    with_tag None v = v
+    with_tag (Some n) v = record v { tags = record { name = n; sort = Enumeration; number = length w.enums } ∷ v.tags }
 
 abbrev pub enum_number : (tag own : Option (List ℕ)) → M ℕ
 enum_number tag own =
@@ -248,16 +248,16 @@ enum_number tag own =
 abbrev pub is_open_enum : World → ℕ → Bool
 is_open_enum w n = of_slot (slice_get w.enums n)
   where
-  of_slot : Option EnumOf → Bool
-  of_slot None = false
-  of_slot (Some e) = not e.is_defined
+    of_slot : Option EnumOf → Bool
+    of_slot None = false
+    of_slot (Some e) = not e.is_defined
 
 abbrev pub finish_enum : ℕ → World → World
 finish_enum n w = of_slot (slice_get w.enums n)
   where
-  of_slot : Option EnumOf → World
-  of_slot None = w
-  of_slot (Some e) = record w { enums = slice_set w.enums n (record e { is_defined = true }) }
+    of_slot : Option EnumOf → World
+    of_slot None = w
+    of_slot (Some e) = record w { enums = slice_set w.enums n (record e { is_defined = true }) }
 
 -- 7, where the enumerators stand in braces, and where the tag stands alone
 abbrev pub judge_enum : At → Option (List ℕ) → ℕ → M CType

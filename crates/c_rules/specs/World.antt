@@ -180,14 +180,27 @@ without_type local = record { type = Void; local = local; is_defined = false }
 abbrev pub note_object : ℕ → CType → (is_fixed : Bool) → World → World
 note_object number t is_fixed w = of_slot (slice_get w.objects number)
   where
-  of_slot : Option ObjectOf → World
-  of_slot None = w
-  of_slot (Some o) =
-      record w { objects = slice_set w.objects number (record { type = t; local = o.local; is_defined = is_fixed || is_some o.local }) }
+    of_slot : Option ObjectOf → World
+    of_slot None = w
+    of_slot (Some o) =
+        record w { objects = slice_set w.objects number (record { type = t; local = o.local; is_defined = is_fixed || is_some o.local }) }
 
 -- what is known before a unit of so many nodes
 abbrev pub start : ℕ → World
 start nodes = record {
-  names = []; depth = 0; tags = []; records = record { heads = []; layouts = []; members = [] }; enums = []; unnamed = 0; objects = []; functions = []; locals = 0; completed = []; others = [];
-  types = replicate nodes None; targets = replicate nodes None; bindings = replicate nodes None; constants = replicate nodes None;
+  names = [];
+  depth = 0;
+  tags = [];
+  records = record { heads = []; layouts = []; members = [] };
+  enums = [];
+  unnamed = 0;
+  objects = [];
+  functions = [];
+  locals = 0;
+  completed = [];
+  others = [];
+  types = replicate nodes None;
+  targets = replicate nodes None;
+  bindings = replicate nodes None;
+  constants = replicate nodes None;
 }
