@@ -8,10 +8,10 @@ ghost use Rattle.call_rewriter.specs.Tagged.{tagged};
 ghost use Rattle.alloctoken.specs.Reading.{ReadsFile, ReadsUnit, Rewrites, Serves, Takes};
 
 use crate::options::{Options, options_of};
+use c_held as held;
 use c_lexer::{LexEnd, lex};
 use c_parser::{ParseEnd, parse};
 use c_printer::print_unit;
-use c_tree::Unit;
 use call_rewriter::tagged_unit;
 use std::alloc::{AllocError, Global};
 use tok_base::{Bytes, Files, Items, NoMemory, ReadEnd};
@@ -59,13 +59,13 @@ impl From<AllocError> for Refusal {
 }
 
 /// The unit that a text is.
-fn unit_of(alloc: Global, text: &[u8]) -> Result<Unit, Refusal>
+fn unit_of(alloc: Global, text: &[u8]) -> Result<held::Unit, Refusal>
     requires { length text.now ≤ 1048576 }
     ensures { ReadsUnit text.now result }
 {
     match lex(alloc, text) {
         Ok(tokens) => match parse(alloc, &tokens) {
-            Ok(unit) => Ok(unit),
+            Ok(unit) => Ok(held::Unit::new(unit)),
             Err(ParseEnd::Syntax(place)) => Err(Refusal::Syntax(place)),
             Err(ParseEnd::TooDeep) => Err(Refusal::TooDeep),
             Err(ParseEnd::NoMemory) => Err(Refusal::NoMemory),
@@ -88,12 +88,12 @@ fn text_of<F: Files>(alloc: Global, files: &mut F, name: &[u8]) -> Result<Bytes,
 }
 
 /// The text of a unit with its sites tagged.
-fn tagged_text(alloc: Global, unit: &Unit, max: u32) -> Result<Bytes, NoMemory>
+fn tagged_text(alloc: Global, unit: &held::Unit, max: u32) -> Result<Bytes, NoMemory>
     requires least { 1 ≤ max }
     requires greatest { max ≤ 65536 }
     ensures { IfOk result (λ text. text ≡ unit_text (tagged max (bare_unit (view_unit unit.now)))) }
 {
-    let tagged = tagged_unit(alloc, unit, max)?;
+    let tagged = tagged_unit(alloc, unit.get(), max)?;
     print_unit(alloc, tagged.get())
 }
 
