@@ -122,7 +122,7 @@ fn long_and_deep_units_and_failing_sinks_end_so(rt: HostRuntime) -> Result<(), F
     }
     for (line, out_fails, report_fails) in [
         (TWO, [0].as_slice(), [].as_slice()),
-        ("rewrite", &[], &[0]),
+        ("rewrite", [].as_slice(), [0].as_slice()),
     ] {
         let unit = Items::from_slice(alloc, THREE.as_bytes())?;
         let ended = run(alloc, line, unit, out_fails, report_fails)?;
