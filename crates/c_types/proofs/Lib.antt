@@ -7,6 +7,7 @@ pub mod Laying
 pub mod Naming
 pub mod Piecing
 pub mod Qualifying
+pub mod Recording
 pub mod Rooting
 pub mod Shaping
 pub mod Sounding

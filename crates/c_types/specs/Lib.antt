@@ -11,6 +11,7 @@ pub mod Members
 pub mod Pieces
 pub mod Plain
 pub mod Pointers
+pub mod RecordSteps
 pub mod Records
 pub mod Roots
 pub mod Rows

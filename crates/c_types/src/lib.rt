@@ -16,7 +16,7 @@ mod rows;
 mod table;
 mod terms;
 
-pub use laws::same_numbers_law;
+pub use laws::{records_law, same_numbers_law};
 pub use records::Member;
 pub use rows::some_examples;
 pub use table::TypeTable;

@@ -319,7 +319,6 @@ impl TypeTable {
     pub fn finish_record(&mut self, id: TypeId, members: Items<Member>) -> Result<(), TypeEnd>
         requires valid { id.0 < length self.old.terms }
         requires unfinished { IsTrue (is_open self.old.layouts (type_at self.old.terms id.0)) }
-        requires some { 0 < length members }
         requires below { MembersBelow (length self.old.terms) members }
         ensures accepted { OnOk result (let k = number_of (type_at self.old.terms id.0) in record_refusal self.old.layouts (is_union_at self.old.records k) (member_types self.old.terms members) ≡ None) }
         ensures finished { OnOk result (self.new ≡ finished self.old (number_of (type_at self.old.terms id.0)) members) }

@@ -1,6 +1,6 @@
 //! Names and their places.
 
-ghost use Rattle.std.specs.Prelude.{◌≡◌, ℕ, List, None, OnOk};
+ghost use Rattle.std.specs.Prelude.{◌≡◌, ℕ, List, None, OnOk, OnErr};
 ghost use Rattle.name_places.specs.Placed.{placed, with_place};
 
 use indexmap::IndexMap;
@@ -32,7 +32,8 @@ impl NamePlaces {
 
     /// Gives a name its place, unless it has one.
     pub fn note(&mut self, alloc: Global, name: &[u8], place: u64) -> Result<(), NoMemory>
-        ensures { OnOk result ((other : List ℕ) → placed self.new other ≡ with_place (placed self.old) name.now place other) }
+        ensures noted { OnOk result ((other : List ℕ) → placed self.new other ≡ with_place (placed self.old) name.now place other) }
+        ensures same { OnErr result ((other : List ℕ) → placed self.new other ≡ placed self.old other) }
     {
         match self.find(name) {
             Some(_was) => Ok(()),
@@ -42,7 +43,8 @@ impl NamePlaces {
 
     fn insert(&mut self, alloc: Global, name: &[u8], place: u64) -> Result<(), NoMemory>
         requires { placed self.old name.now ≡ None }
-        ensures { OnOk result ((other : List ℕ) → placed self.new other ≡ with_place (placed self.old) name.now place other) }
+        ensures noted { OnOk result ((other : List ℕ) → placed self.new other ≡ with_place (placed self.old) name.now place other) }
+        ensures same { OnErr result ((other : List ℕ) → placed self.new other ≡ placed self.old other) }
     {
         let key = Vec::from_slice(alloc, name)?;
         match self.index.insert(key, place) {
