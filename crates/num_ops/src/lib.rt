@@ -12,8 +12,6 @@ mod kinds;
 mod numbers;
 mod rows;
 mod shifts;
-#[cfg(test)]
-mod tests;
 
 pub use arithmetic::{Op, Undefined, arith};
 pub use constants::{Base, Length, constant_kind};

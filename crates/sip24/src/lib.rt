@@ -12,8 +12,6 @@ ghost use Rattle.sip24.specs.SipHash.{siphash};
 
 mod hasher;
 mod state;
-#[cfg(test)]
-mod tests;
 
 pub use hasher::Sip24;
 

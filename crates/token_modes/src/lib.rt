@@ -15,8 +15,6 @@ use sip24::sip24;
 
 mod mode;
 mod plan;
-#[cfg(test)]
-mod tests;
 
 pub use mode::Mode;
 pub use plan::Plan;
