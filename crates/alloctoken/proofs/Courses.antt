@@ -1,5 +1,5 @@
 -- What follows from the course that a run takes.
-use Rattle.std.proofs.Common.{◌≡◌, ◌≢◌, ◌⊎◌, inl, inr, ℕ, ◌<◌, ◌≤◌, ◌++◌, List, [], length, Option, Some, None, IfSome, true, false, refl, sym, ap, ◌∙◌, subst, arith}
+use Rattle.std.proofs.Common.{◌≡◌, ◌≢◌, ◌⊎◌, inl, inr, ℕ, ◌<◌, List, [], length, Option, Some, None, IfSome, false, refl, sym, ap, ◌∙◌, subst, arith}
 use Rattle.std.specs.Prelude.{◌==◌}
 use Rattle.std.proofs.lemmas.Bool.Decides.{nat_tests}
 use Rattle.std.proofs.lemmas.List.{append-nil}
@@ -12,17 +12,13 @@ use Rattle.tok_base.specs.declared.status.Status.TheVariants.{Done, Usage, FileF
 use Rattle.tok_base.specs.declared.status.Which.{Which}
 use Rattle.tok_base.specs.declared.status.Which.TheVariants as which
 use Rattle.c_lexer.specs.Cut.{IsBad}
-use Rattle.c_tree.specs.Tree.{External}
-use Rattle.c_tree.specs.Depth.{IsFlat}
-use Rattle.c_tree.specs.Printed.{unit_text}
-use Rattle.call_rewriter.specs.Tagged.{tagged}
 use Rattle.call_rewriter.proofs.Formed.{reads_again, stays_formed}
 use Rattle.call_rewriter.proofs.Depths.{stays_flat}
-use Rattle.alloctoken.specs.declared.options.Options.{Options}
-use Rattle.alloctoken.specs.Options.{options_of}
+use Rattle.command_line.specs.declared.options.Options.{Options}
+use Rattle.command_line.specs.Options.{options_of}
 use Rattle.alloctoken.specs.Course as c
-use Rattle.alloctoken.specs.Course.{Reads, HasText, IsTooLong, GoesTooDeep, GoesWrongAt, NamesTooLong, NamesText, Course, writes, refuses, TextComes, Comes, line_of, Written, Change, Holds, Fails, Writes, Stays, Ends, Runs, Due, IsDue, ReadsBack, status_of, out_of, report_of}
-use Rattle.alloctoken.proofs.Ranges.{options_in_range}
+use Rattle.alloctoken.specs.Course.{HasText, IsTooLong, GoesTooDeep, GoesWrongAt, NamesTooLong, NamesText, Course, writes, refuses, TextComes, Comes, line_of, Written, Change, Holds, Writes, Stays, Ends, Runs, Due, IsDue, ReadsBack, status_of}
+use Rattle.command_line.proofs.Ranges.{options_in_range}
 
 pub differ : (a b : Status) → (code_of a == code_of b) ≡ false → a ≡ b → ⊥
 differ a b h e = let k : code_of a ≡ code_of b = ap code_of e in grind (arith, nat_tests)

@@ -1,5 +1,5 @@
 -- A text and its unit.
-use Rattle.std.proofs.Common.{◌≡◌, ◌≢◌, ℕ, ◌+◌, ◌<◌, ◌≤◌, List, [], ◌∷◌, ◌++◌, length, take, drop, map, refl, sym, ◌∙◌, ap, subst, length-append, arith}
+use Rattle.std.proofs.Common.{◌≡◌, ◌≢◌, ℕ, ◌+◌, ◌≤◌, List, [], ◌∷◌, ◌++◌, length, take, drop, map, refl, sym, ◌∙◌, ap, subst, length-append, arith}
 use Rattle.std.proofs.lemmas.List.{length-take-le, take-append-drop}
 use Rattle.tok_base.specs.declared.token.Token.{Token}
 use Rattle.tok_base.specs.declared.token.Lexeme.{Lexeme}
@@ -8,7 +8,7 @@ use Rattle.c_lexer.specs.Lexeme.{lexeme_of, LexesTo}
 use Rattle.c_lexer.proofs.Spellings.{spelling_told}
 use Rattle.c_tree.specs.Tree.{External}
 use Rattle.c_tree.specs.Depth.{IsFlat}
-use Rattle.c_tree.specs.Reading.{IsUnit, IsPlace, IsDeep}
+use Rattle.c_tree.specs.Reading.{IsUnit, IsPlace}
 use Rattle.c_tree.specs.Reading as trees
 use Rattle.c_parser.specs.Parsed.{IsParsed, IsWrongAt, IsNotFlat, IsTooDeep, not_flat, goes_deep}
 use Rattle.alloctoken.specs.Course.{Reads, GoesWrong, GoesWrongAt, GoesTooDeep, is_deep, begins_deep}

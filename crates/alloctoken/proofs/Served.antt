@@ -1,6 +1,5 @@
 -- What the options come to is what the words come to, and how a run ends that tells a refusal.
-use Rattle.std.proofs.Common.{◌≡◌, ◌⊎◌, inl, inr, ℕ, List, Option, Some, None, IfSome, Result, Ok, Err, refl, sym, ap, subst}
-use Rattle.tok_base.specs.Status.{code_of}
+use Rattle.std.proofs.Common.{◌≡◌, inl, inr, ℕ, List, Option, Some, Result, Ok, Err, refl, sym, subst}
 use Rattle.tok_base.specs.Files.{Contents, Tally}
 use Rattle.tok_base.specs.declared.status.Status.{Status}
 use Rattle.tok_base.specs.declared.status.Status.TheVariants as status
@@ -11,13 +10,13 @@ use Rattle.c_tree.specs.Printed.{unit_text}
 use Rattle.c_tree.specs.View.{view_unit}
 use Rattle.c_tree.specs.declared.statement.Unit as tree
 use Rattle.call_rewriter.specs.Tagged.{tagged}
-use Rattle.alloctoken.specs.declared.options.Options.{Options}
+use Rattle.command_line.specs.declared.options.Options.{Options}
 use Rattle.alloctoken.specs.declared.course.Refusal.{Refusal}
 use Rattle.alloctoken.specs.declared.course.Refusal.TheVariants as refusal
-use Rattle.alloctoken.specs.Options.{options_of}
+use Rattle.command_line.specs.Options.{options_of}
 use Rattle.alloctoken.specs.Course as c
-use Rattle.alloctoken.specs.Course.{Reads, Comes, Course, writes, refuses, HasText, TextComes, Change, Stays, Runs, Writes, line_of}
-use Rattle.alloctoken.specs.Reading.{ReadsFile, ReadsUnit, Rewrites, Serves, Takes, Tells, WritesNumbered, course_of, status_of}
+use Rattle.alloctoken.specs.Course.{Reads, Comes, writes, refuses, HasText, TextComes, Change, Stays, Runs, Writes, line_of}
+use Rattle.alloctoken.specs.Reading.{ReadsFile, ReadsUnit, Rewrites, Serves, Takes, Tells, WritesNumbered, course_of}
 use Rattle.alloctoken.proofs.Courses.{differ, starved}
 
 pub refused_text : (text : List ℕ) (max : ℕ) (e : Refusal) → ReadsUnit text (Err e) → Rewrites text max (Err e)

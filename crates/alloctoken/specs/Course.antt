@@ -1,5 +1,5 @@
 -- What a run of the program comes to.
-use Rattle.std.specs.Prelude.{◌≡◌, ◌≢◌, ℕ, ◌<◌, ◌≤◌, ◌⊎◌, codes, decimal, ◌++◌, List, [], ◌∷◌, Option, Some, None, IfSome, length}
+use Rattle.std.specs.Prelude.{◌≡◌, ℕ, ◌<◌, ◌≤◌, ◌⊎◌, codes, decimal, ◌++◌, List, [], ◌∷◌, Option, Some, None, IfSome, length}
 use Rattle.std.specs.Io.KnownBytes.{Appends}
 use Rattle.tok_base.specs.Fault.{Rose}
 use Rattle.tok_base.specs.Files.{Contents, Tally}
@@ -16,8 +16,8 @@ use Rattle.c_tree.specs.Depth.{IsFlat}
 use Rattle.c_tree.specs.Reading.{spelled, IsUnit, IsPlace, IsDeep}
 use Rattle.c_tree.specs.Printed.{unit_text}
 use Rattle.call_rewriter.specs.Tagged.{tagged}
-use Rattle.alloctoken.specs.declared.options.Options.{Options}
-use Rattle.alloctoken.specs.Options.{options_of}
+use Rattle.command_line.specs.declared.options.Options.{Options}
+use Rattle.command_line.specs.Options.{options_of}
 
 -- ---- what a text is
 

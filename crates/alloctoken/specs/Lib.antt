@@ -1,6 +1,3 @@
-pub mod Words
-pub mod Options
-pub mod OptionExamples
-pub mod Draft
 pub mod Course
 pub mod Reading
+pub mod Exit

@@ -11,7 +11,7 @@ use Rattle.c_tree.specs.Depth.{IsFlat}
 use Rattle.c_tree.specs.View.{view_unit}
 use Rattle.c_tree.specs.declared.statement.Unit as tree
 use Rattle.alloctoken.specs.Course.{Reads, GoesTooDeep, GoesWrongAt, HasText, IsTooLong, Course, writes, refuses, TextComes, Comes, Change, Writes, line_of}
-use Rattle.alloctoken.specs.declared.options.Options.{Options}
+use Rattle.command_line.specs.declared.options.Options.{Options}
 use Rattle.alloctoken.specs.declared.course.Refusal.{Refusal}
 use Rattle.alloctoken.specs.declared.course.Refusal.TheVariants.{Usage, FileFault, TooLong, Lex, Syntax, TooDeep, NoMemory}
 

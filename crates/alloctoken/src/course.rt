@@ -7,12 +7,12 @@ ghost use Rattle.c_tree.specs.View.{view_unit};
 ghost use Rattle.call_rewriter.specs.Tagged.{tagged};
 ghost use Rattle.alloctoken.specs.Reading.{ReadsFile, ReadsUnit, Rewrites, Serves, Takes};
 
-use crate::options::{Options, options_of};
 use c_held as held;
 use c_lexer::{LexEnd, lex};
 use c_parser::{ParseEnd, parse};
 use c_printer::print_unit;
 use call_rewriter::tagged_unit;
+use command_line::{Options, options_of};
 use std::alloc::{AllocError, Global};
 use tok_base::{Bytes, Files, Items, NoMemory, ReadEnd};
 

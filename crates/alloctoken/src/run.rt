@@ -5,8 +5,8 @@ ghost use Rattle.std.specs.Io.KnownBytes.{Appends};
 ghost use Rattle.tok_base.specs.Fault.{Rose};
 ghost use Rattle.tok_base.specs.Files.{Contents};
 ghost use Rattle.c_lexer.specs.Cut.{IsBad};
-ghost use Rattle.alloctoken.specs.declared.options.Options.{Options};
-ghost use Rattle.alloctoken.specs.Options as options;
+ghost use Rattle.command_line.specs.declared.options.Options.{Options};
+ghost use Rattle.command_line.specs.Options as options;
 ghost use Rattle.alloctoken.specs.Course.{Runs, Writes, IsDue, ReadsBack, NamesTooLong, NamesText, GoesWrongAt, GoesTooDeep, change, line_of};
 ghost use Rattle.alloctoken.specs.Reading.{Tells, WritesNumbered};
 

@@ -1,5 +1,5 @@
 use Rattle.std.proofs.Common.{refl, sym, ◌∙◌}
-use Rattle.alloctoken.proofs.Ranges.{options_in_range}
+use Rattle.command_line.proofs.Ranges.{options_in_range}
 use Rattle.alloctoken.proofs.Served.{served}
 use Rattle.alloctoken.specs.Course as c_
 use Rattle.alloctoken.proofs.course.course.Goals as goal

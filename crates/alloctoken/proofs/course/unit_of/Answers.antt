@@ -1,6 +1,6 @@
 use Rattle.std.proofs.Common.{Err, ap, arith}
 use Rattle.c_lexer.proofs.Places.{tokens_are}
-use Rattle.alloctoken.proofs.Readings.{fewer_tokens, goes_too_deep, goes_wrong, reads}
+use Rattle.alloctoken.proofs.Readings.{fewer_tokens, goes_too_deep, goes_wrong}
 use Rattle.alloctoken.proofs.course.unit_of.Goals as goal
 
 pub parse-requires-clause-short : goal.parse-requires-clause-short

@@ -1,7 +1,7 @@
 use Rattle.std.proofs.Common.{◌+◌, ◌*◌, drop, arith, sym, ◌∙◌, ap}
-use Rattle.alloctoken.specs.Words as words
-use Rattle.alloctoken.proofs.Drafts.{value_grows, value_at}
-use Rattle.alloctoken.proofs.options.value_of.Goals as goal
+use Rattle.command_line.specs.Words as words
+use Rattle.command_line.proofs.Drafts.{value_grows, value_at}
+use Rattle.command_line.proofs.options.value_of.Goals as goal
 
 pub returns-then-value-gt65536-clause-small : goal.returns-then-value-gt65536-clause-small
 returns-then-value-gt65536-clause-small c = λ h.

@@ -1,10 +1,10 @@
 -- The number of tokens that the words ask for is in its range.
-use Rattle.std.proofs.Common.{◌≡◌, ℕ, ◌≤◌, Bool, true, false, List, [], ◌∷◌, Option, Some, None, refl, sym, ap, ◌∙◌, subst, arith}
+use Rattle.std.proofs.Common.{◌≡◌, ℕ, ◌≤◌, Bool, true, false, List, [], ◌∷◌, Option, Some, None, refl, ap, subst, arith}
 use Rattle.std.specs.Prelude.{◌&&◌, leb, bytes_eq, codes, option_map, option_and_then, if◌then◌else◌}
 use Rattle.std.proofs.lemmas.Bool.Decides.{nat_tests}
-use Rattle.alloctoken.specs.declared.options.Options.{Options}
-use Rattle.alloctoken.specs.Words.{Part, Mode, Max, parts, values, files, number, is_number, value_from}
-use Rattle.alloctoken.specs.Options.{max_of, options_from, options_in, options_of}
+use Rattle.command_line.specs.declared.options.Options.{Options}
+use Rattle.command_line.specs.Words.{Part, Mode, Max, parts, values, files, number, is_number, value_from}
+use Rattle.command_line.specs.Options.{max_of, options_from, options_in, options_of}
 
 abbrev InRange : ℕ → Type 0
 InRange n = (1 ≤ n) × (n ≤ 65536)

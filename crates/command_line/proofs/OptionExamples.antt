@@ -1,6 +1,6 @@
 -- The worked examples, by computation.
 use Rattle.std.proofs.Common.{refl}
-use Rattle.alloctoken.specs.OptionExamples.{OptionExamples}
+use Rattle.command_line.specs.OptionExamples.{OptionExamples}
 
 pub examples_hold : OptionExamples
 examples_hold = record {
@@ -32,4 +32,26 @@ examples_hold = record {
   other_command = refl;
   command_alone = refl;
   no_words = refl;
+  file_then_mode = refl;
+  max_then_file = refl;
+  file_named_as_mode = refl;
+  file_named_as_command = refl;
+  file_of_any_bytes = refl;
+  max_above_32_bits = refl;
+  max_above_64_bits = refl;
+  max_two_zeros = refl;
+  max_negative = refl;
+  max_blank = refl;
+  max_hexadecimal = refl;
+  max_word = refl;
+  mode_last = refl;
+  mode_shorter = refl;
+  mode_longer = refl;
+  mode_empty = refl;
+  mode_equals = refl;
+  max_without_mode = refl;
+  help_alone = refl;
+  one_file_twice = refl;
+  command_later = refl;
+  one_empty_word = refl;
 }

@@ -2,10 +2,10 @@
 
 ghost use Rattle.std.specs.Prelude.{◌≡◌, ◌≤◌, ◌<◌, IfOk};
 ghost use Rattle.std.specs.Option.{option_and_then, option_copied, option_map};
-ghost use Rattle.alloctoken.specs.Words as words;
-ghost use Rattle.alloctoken.specs.Options as options;
-ghost use Rattle.alloctoken.specs.Draft as machine;
-ghost use Rattle.alloctoken.specs.OptionExamples.{OptionExamples};
+ghost use Rattle.command_line.specs.Words as words;
+ghost use Rattle.command_line.specs.Options as options;
+ghost use Rattle.command_line.specs.Draft as machine;
+ghost use Rattle.command_line.specs.OptionExamples.{OptionExamples};
 
 use std::alloc::Global;
 use tok_base::{Bytes, Items, NoMemory};

@@ -1,7 +1,7 @@
 -- What the words of the command line ask for.
 use Rattle.std.specs.Prelude.{ℕ, bytes_eq, codes, List, [], ◌∷◌, Option, Some, None, option_map, option_and_then, if◌then◌else◌}
-use Rattle.alloctoken.specs.Words.{Part, Mode, Max, parts, values, files, number}
-use Rattle.alloctoken.specs.declared.options.Options.{Options}
+use Rattle.command_line.specs.Words.{Part, Mode, Max, parts, values, files, number}
+use Rattle.command_line.specs.declared.options.Options.{Options}
 
 -- `--max` may stand once, and is 16 where it doesn't
 abbrev pub max_of : List (List ℕ) → Option ℕ

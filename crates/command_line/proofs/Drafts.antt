@@ -1,11 +1,11 @@
 -- Reading the words one by one comes to the same as their parts, and the digits of a number one by one to its value.
 use Rattle.std.proofs.Common.{◌≡◌, ℕ, zero, suc, ◌+◌, ◌-◌, ◌*◌, ◌≤◌, ◌<◌, ◌++◌, List, [], ◌∷◌, length, drop, get_or, true, false, refl, sym, ◌∙◌, ap, arith}
 use Rattle.std.specs.Prelude.{Option, Some, None, option_and_then, option_map, bytes_eq, codes, if◌then◌else◌}
-use Rattle.alloctoken.specs.Words as words
-use Rattle.alloctoken.specs.Words.{Key, Mode, Max, Part, key_of, is_plain, with_part, parts, values, files, value_from}
-use Rattle.alloctoken.specs.Options.{options_from, options_in}
-use Rattle.alloctoken.specs.Draft.{Reading, begin, placed, placed_plain, read_free, read_all, listed, finish}
-use Rattle.alloctoken.specs.declared.options.Options.{Options}
+use Rattle.command_line.specs.Words as words
+use Rattle.command_line.specs.Words.{Key, Mode, Max, Part, key_of, is_plain, with_part, parts, values, files, value_from}
+use Rattle.command_line.specs.Options.{options_from, options_in}
+use Rattle.command_line.specs.Draft.{Reading, begin, placed, placed_plain, read_free, read_all, listed, finish}
+use Rattle.command_line.specs.declared.options.Options.{Options}
 
 abbrev pub held : Option Key → Option (List ℕ) → Option (List ℕ) → Option (List ℕ) → Reading
 held k m x f = record { key = k; mode = m; max = x; file = f }

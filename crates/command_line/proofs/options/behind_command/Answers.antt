@@ -1,8 +1,8 @@
 use Rattle.std.proofs.Common.{◌∙◌, ap}
 use Rattle.std.specs.Option.{option_and_then}
-use Rattle.alloctoken.specs.Draft as machine
-use Rattle.alloctoken.proofs.Drafts.{read_parts}
-use Rattle.alloctoken.proofs.options.behind_command.Goals as goal
+use Rattle.command_line.specs.Draft as machine
+use Rattle.command_line.proofs.Drafts.{read_parts}
+use Rattle.command_line.proofs.options.behind_command.Goals as goal
 
 pub returns-in-Some : goal.returns-in-Some
 returns-in-Some c = c.finish.ensures ∙ ap (option_and_then machine.finish) c.in-Some.ensures ∙ read_parts c.args.rest.now

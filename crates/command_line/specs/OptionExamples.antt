@@ -1,6 +1,6 @@
 -- Worked examples of what the words ask for.
-use Rattle.std.specs.Prelude.{◌≡◌, ℕ, codes, List, [], ◌∷◌, Some, None}
-use Rattle.alloctoken.specs.Options.{options_of}
+use Rattle.std.specs.Prelude.{◌≡◌, ℕ, codes, ◌++◌, List, [], ◌∷◌, Some, None}
+use Rattle.command_line.specs.Options.{options_of}
 
 -- the file a.c, and so many tokens
 abbrev pub Asks : List (List ℕ) → ℕ → Type 0
@@ -12,6 +12,10 @@ IsRefused ws = options_of ws ≡ None
 -- rewrite --mode increment, and these words
 abbrev pub rewrite_by : List (List ℕ) → List (List ℕ)
 rewrite_by ws = codes "rewrite" ∷ codes "--mode" ∷ codes "increment" ∷ ws
+
+-- a file of this name is taken
+abbrev pub Names : List ℕ → Type 0
+Names name = options_of (rewrite_by (name ∷ [])) ≡ Some (record { file = name; max = 16 })
 
 -- rewrite --mode increment --max, this value, and a.c
 abbrev pub with_max : List ℕ → List (List ℕ)
@@ -46,3 +50,27 @@ pub record OptionExamples : Type 0 where
   pub other_command : IsRefused (codes "check" ∷ codes "--mode" ∷ codes "increment" ∷ codes "a.c" ∷ [])
   pub command_alone : IsRefused (codes "rewrite" ∷ [])
   pub no_words : IsRefused []
+  -- the order of the parts is free, and any plain word is a file
+  pub file_then_mode : Asks (codes "rewrite" ∷ codes "a.c" ∷ codes "--mode" ∷ codes "increment" ∷ codes "--max" ∷ codes "2" ∷ []) 2
+  pub max_then_file : Asks (codes "rewrite" ∷ codes "--max" ∷ codes "2" ∷ codes "a.c" ∷ codes "--mode" ∷ codes "increment" ∷ []) 2
+  pub file_named_as_mode : Names (codes "increment")
+  pub file_named_as_command : Names (codes "rewrite")
+  pub file_of_any_bytes : Names (codes "/d-1/" ++ 255 ∷ codes " x.c")
+  -- more words that the program doesn't take
+  pub max_above_32_bits : IsRefused (with_max (codes "4294967298"))
+  pub max_above_64_bits : IsRefused (with_max (codes "18446744073709551618"))
+  pub max_two_zeros : IsRefused (with_max (codes "00"))
+  pub max_negative : IsRefused (with_max (codes "-2"))
+  pub max_blank : IsRefused (with_max (codes "2 "))
+  pub max_hexadecimal : IsRefused (with_max (codes "0x2"))
+  pub max_word : IsRefused (with_max (codes "two"))
+  pub mode_last : IsRefused (codes "rewrite" ∷ codes "a.c" ∷ codes "--mode" ∷ [])
+  pub mode_shorter : IsRefused (codes "rewrite" ∷ codes "--mode" ∷ codes "incremen" ∷ codes "a.c" ∷ [])
+  pub mode_longer : IsRefused (codes "rewrite" ∷ codes "--mode" ∷ codes "increments" ∷ codes "a.c" ∷ [])
+  pub mode_empty : IsRefused (codes "rewrite" ∷ codes "--mode" ∷ [] ∷ codes "a.c" ∷ [])
+  pub mode_equals : IsRefused (codes "rewrite" ∷ codes "--mode=increment" ∷ codes "a.c" ∷ [])
+  pub max_without_mode : IsRefused (codes "rewrite" ∷ codes "--max" ∷ codes "2" ∷ codes "a.c" ∷ [])
+  pub help_alone : IsRefused (codes "rewrite" ∷ codes "--help" ∷ [])
+  pub one_file_twice : IsRefused (rewrite_by (codes "a.c" ∷ codes "a.c" ∷ []))
+  pub command_later : IsRefused (codes "--mode" ∷ codes "increment" ∷ codes "rewrite" ∷ codes "a.c" ∷ [])
+  pub one_empty_word : IsRefused ([] ∷ [])

@@ -3,11 +3,11 @@
 use denote.Ref.{Bor}
 use Rattle.std.specs.Prelude.{ℕ, List, [], ◌∷◌, Option, Some, None, option_and_then, option_map, if◌then◌else◌}
 use Rattle.std.specs.Option.{option_copied}
-use Rattle.alloctoken.specs.Words.{Key, Mode, Max, key_of, is_plain}
-use Rattle.alloctoken.specs.Options.{options_from}
-use Rattle.alloctoken.specs.declared.options.Options.{Options}
-use Rattle.alloctoken.specs.declared.options.Draft as declared_draft
-use Rattle.alloctoken.specs.declared.options.Key as declared_key
+use Rattle.command_line.specs.Words.{Key, Mode, Max, key_of, is_plain}
+use Rattle.command_line.specs.Options.{options_from}
+use Rattle.command_line.specs.declared.options.Options.{Options}
+use Rattle.command_line.specs.declared.options.Draft as declared_draft
+use Rattle.command_line.specs.declared.options.Key as declared_key
 
 -- the option whose value comes next, and what stood behind each option and as a file so far
 pub record Reading : Type 0 where

@@ -1,0 +1,33 @@
+//! From what the process is given to how it ends.
+
+ghost use Rattle.std.specs.Process.{exit_status};
+ghost use Rattle.alloctoken.specs.Course.{change};
+ghost use Rattle.alloctoken.specs.Exit.{Exits};
+
+use crate::run::alloctoken_main;
+use command_line::{exit_of, words_of};
+use std::alloc::Global;
+use std::env::Args;
+use std::io;
+use std::process::ExitCode;
+use tok_base::{Files, NoMemory, Sink, Status};
+
+/// All that `main` does with what it is given: the arguments of the process, the files, and as sinks standard
+/// output and standard error. The program runs on the arguments behind the first, byte for byte, and the exit
+/// status is the number of the status that it answers.
+pub fn exit_code<F: Files, O: Sink, E: Sink>(
+    alloc: Global,
+    args: io::Result<Args>,
+    files: &mut F,
+    out: &mut O,
+    report: &mut E,
+) -> ExitCode
+    ensures { Exits args (F.contents files.old) (F.tally files.old) (F.tally files.new) (exit_status result)
+        (change (O.written out.old) (O.faults out.old) (O.written out.new) (O.faults out.new))
+        (change (E.written report.old) (E.faults report.old) (E.written report.new) (E.faults report.new)) }
+{
+    match words_of(alloc, args) {
+        Ok(words) => exit_of(&alloctoken_main(alloc, &words, files, out, report)),
+        Err(NoMemory) => exit_of(&Status::NoMemory),
+    }
+}

@@ -1,0 +1,5 @@
+pub mod Words
+pub mod Options
+pub mod OptionExamples
+pub mod Draft
+pub mod Arguments
