@@ -14,10 +14,11 @@ use Rattle.c_rules.specs.Typed.{Typed, Constant}
 use Rattle.c_rules.specs.World.{find_name, note_type}
 use Rattle.c_rules.specs.Trials.{M}
 use Rattle.c_rules.specs.Specifiers.{Specified, nothing_specified, with_word, with_type, base_type}
-use Rattle.c_rules.specs.Declarators.{Laid, Built, Declares, is_nothing}
+use Rattle.c_rules.specs.Declarators.{Laid, Built, is_nothing}
 use Rattle.c_rules.specs.Forms.{Whole, Given, judge_name, judge_number, judge_char, judge_text, judge_paren, judge_step, judge_prefix, judge_sizeof, judge_cast, judge_binary, judge_index, judge_comma, judge_cond, judge_assign, operator_of, judge_call, judge_dot, judge_arrow}
 use Rattle.c_rules.specs.Walk.{judge, judge_all, judge_name_of_type, judge_specs, judge_fields_of, judge_fields, judge_members, judge_list, judge_enumerators, judge_value, judge_layers, judge_params, judge_attribute, judge_entries, judge_arguments, judge_maybe_arguments, judge_builtin, judge_built, judge_type, judge_member, judge_record, judge_record_tag, judge_enum, judge_enum_tag, judge_enumerator, judge_param_as, judge_param_or_void, judge_argument, with_tagged, entry_type, is_alone, at_of, at_of_expr, name_node}
 use Rattle.c_rules.proofs.Nodes.{lower, Runs, RunsAt, name_runs, number_runs, char_runs, text_runs, paren_runs, step_runs, prefix_runs, sizeof_runs, cast_runs, binary_runs, index_runs, comma_runs, cond_runs, assign_runs, call_runs, dot_runs, arrow_runs, builtin_runs}
+use Rattle.c_rules.specs.declared.known.Declares.{Declares}
 
 -- ---- what has no nodes
 

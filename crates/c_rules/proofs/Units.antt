@@ -13,13 +13,15 @@ use Rattle.c_rules.specs.Typed.{Typed}
 use Rattle.c_rules.specs.World.{start}
 use Rattle.c_rules.specs.Order.{TrialsInOrder}
 use Rattle.c_rules.specs.Specifiers.{Specified, nothing_specified, base_type, has, is_typedef}
-use Rattle.c_rules.specs.Declarators.{Laid, Built, Declares, a_function, built}
+use Rattle.c_rules.specs.Declarators.{Laid, Built, built}
 use Rattle.c_rules.specs.Initialisers as i
 use Rattle.c_rules.specs.Forms.{Whole}
 use Rattle.c_rules.specs.Walk.{at_of, name_node, judge_attribute}
 use Rattle.c_rules.specs.Unit.{Around, judge_init, judge_inits, judge_declared, judge_attributes, judge_given, judge_item_init, judge_item_of, judge_item, judge_items, judge_declaration, judge_maybe_expr, judge_first, in_loop, judge_stmt, judge_block, judge_body, judge_external, judge_externals, declares, sized, given_length, is_fixed_here, is_static_here, names_of, own_name, whole_of}
 use Rattle.c_rules.proofs.Nodes.{lower, Runs, RunsAt}
 use Rattle.c_rules.proofs.Parts.{Part, ends_behind, attribute_part, comma_skipped, ExprPart, expr_part, SpecsPart, specs_part, DeclaratorPart, declarator_part}
+use Rattle.c_rules.specs.declared.known.Declares.{Declares}
+use Rattle.c_rules.specs.declared.known.Declares.TheVariants as decl
 
 -- ---- initialisers
 
@@ -245,7 +247,7 @@ external_part (t.Definition at ss d body items) n rest h =
         r.1.0.1.1,
         λ u k after w. p.1.1 u false None nothing_specified _ (λ s v. (
           omega (arith, q.1.0),
-          lower _ (128 * p.0 + 64) _ (omega (arith, q.1.0)) (q.1.1 u false _ (λ l x. declared_runs u a_function 0 (at_of d) l (built x (base_type s) l.layers) false true
+          lower _ (128 * p.0 + 64) _ (omega (arith, q.1.0)) (q.1.1 u false _ (λ l x. declared_runs u decl.Function 0 (at_of d) l (built x (base_type s) l.layers) false true
               (λ a y. judge_body u (built x (base_type s) l.layers).type (names_of l.layers) items k y)
               (λ a y. r.1.1 (record { whole = u; result = result_of (plain (built x (base_type s) l.layers).type); in_loop = false }) _
               (λ b z. lower _ (128 * suc (suc r.0)) _ (omega arith) (after _ _)) _) x) v),

@@ -9,6 +9,8 @@ use Rattle.c_types.specs.Records.{limit, MemberOf, members_of}
 use Rattle.c_rules.specs.Types.{is_void, is_scalar}
 use Rattle.c_rules.specs.Typed.{Constant, varies, undefined, is}
 use Rattle.c_rules.specs.World.{World, Entry, is_complete, size_in}
+use Rattle.c_rules.specs.declared.known.Declares.{Declares}
+use Rattle.c_rules.specs.declared.known.Declares.TheVariants as decl
 
 -- what a declarator adds to a type: `*` with qualifiers, `[]` with a length or without one, `()` with the types of parameters
 -- as they are used, an array or a function being a pointer (6.7.6.3), and the names that are declared between its parentheses
@@ -33,6 +35,10 @@ pub record Built : Type 0 where
   pub is_callable : Bool
   pub is_closed : Bool
 
+-- whether its parts keep 4 and 5, so that there is such a type
+abbrev pub is_made : Built → Bool
+is_made b = b.is_complete && b.is_sized
+
 -- an integer constant expression of at least 1
 abbrev pub is_length : Constant → Bool
 is_length (is z) = int_le (pos 1) z
@@ -46,7 +52,7 @@ length_of undefined = 1
 
 abbrev pub stays_below : ℕ → Option ℕ → Bool
 stays_below n None = true
-stays_below n (Some s) = nat_lt (n * s) limit
+stays_below n (Some s) = nat_lt n limit && nat_lt (n * s) limit
 
 -- the last of a struct's members is an array without a length (6.7.2.1, paragraph 18)
 abbrev pub last_is_flexible : List MemberOf → Bool
@@ -106,14 +112,11 @@ makes_function base (l ∷ ls) = is_function_layer l
 
 -- 4: what may be declared with a type: an object or a parameter is complete, a name of a type may be anything,
 -- a member may be an array without a length, and a function is no object
-pub data Declares : Type 0 where
-  alias an_object a_function a_member : Declares
-
 abbrev pub may_be_declared : World → Declares → Built → Bool
-may_be_declared w alias b = b.is_complete
-may_be_declared w a_function b = b.is_complete
-may_be_declared w an_object b = b.is_complete && is_complete w b.type
-may_be_declared w a_member b = b.is_complete && (is_complete w b.type || is_flexible b.type)
+may_be_declared w decl.Type b = b.is_complete
+may_be_declared w decl.Function b = b.is_complete
+may_be_declared w decl.Object b = b.is_complete && is_complete w b.type
+may_be_declared w decl.Member b = b.is_complete && (is_complete w b.type || is_flexible b.type)
 
 -- a single unnamed `void` is the empty list of parameters
 abbrev pub is_nothing : CType → Bool

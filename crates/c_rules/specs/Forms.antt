@@ -19,13 +19,18 @@ use Rattle.c_constants.specs.Integers.{constant_of as number_of}
 use Rattle.c_constants.specs.Literals.{char_value, text_length}
 use Rattle.c_rules.specs.Types.{decayed, settled, pointee, is_integer, is_pointer, is_record, is_scalar, kind_of}
 use Rattle.c_rules.specs.Typed as a
-use Rattle.c_rules.specs.Typed.{Typed, Binding, to_object, to_function, to_enumerator, to_library, Constant, varies, undefined, is, value_of, lvalue_of, constant_of, pointer_of, is_null_constant, is_zero_constant, pointed, moved}
+use Rattle.c_rules.specs.Typed.{Typed, Constant, varies, undefined, is, value_of, lvalue_of, constant_of, pointer_of, is_null_constant, is_zero_constant, pointed, moved}
 use Rattle.c_rules.specs.World as world
-use Rattle.c_rules.specs.World.{World, Entry, Sort, find_name, is_listed, is_complete, size_in, note_type, note_target, note_binding, note_constant}
+use Rattle.c_rules.specs.World.{World, Entry, find_name, is_listed, is_complete, size_in, note_type, note_target, note_binding, note_constant}
 use Rattle.c_rules.specs.Trials.{M, give, ◌>>=◌, ◌>>◌, keep, world, change}
 use Rattle.c_rules.specs.Constants.{arithmetic_of, shift_of, comparison_of, and_of, or_of, cond_of, minus_of, complement_of, not_of, cast_of}
 use Rattle.c_rules.specs.Expressions.{is_function_pointer, are_integers, can_be_followed, has_address, is_modifiable, can_step, can_be_added, can_be_subtracted, can_be_ordered, can_be_equal, can_be_chosen, converts, can_be_cast, can_be_called, all_convert, can_be_indexed, has_member, is_lvalue_record, common_type, sum_type, chosen_type, member_type}
 use Rattle.c_rules.specs.Names.{names_value, library, Prototype}
+use Rattle.c_rules.specs.declared.known.Binding.{Binding}
+use Rattle.c_rules.specs.declared.known.Binding.TheVariants as to
+use Rattle.c_rules.specs.declared.known.ConstantValue.TheVariants as val
+use Rattle.c_rules.specs.declared.known.Sort.{Sort}
+use Rattle.c_rules.specs.declared.known.Sort.TheVariants as sort
 
 -- what the unit has, wherever it stands: the functions with a body, and the objects that file scope defines
 pub record Whole : Type 0 where
@@ -63,14 +68,14 @@ abbrev pub function_binding : Whole → List ℕ → ℕ → Binding
 function_binding whole n number = of_library (if is_listed n whole.bodies then None else number_in 0 n library)
   where
     of_library : Option ℕ → Binding
-    of_library (Some i) = to_library i
-    of_library None = to_function number
+    of_library (Some i) = to.Library i
+    of_library None = to.Function number
 
 abbrev pub bound : Whole → List ℕ → Sort → Option Binding
-bound whole n (world.Object i is_fixed) = Some (to_object i)
-bound whole n (world.Function i) = Some (function_binding whole n i)
-bound whole n (world.Enumerator z) = Some (to_enumerator z)
-bound whole n world.Alias = None
+bound whole n (sort.Object i is_fixed) = Some (to.Object i)
+bound whole n (sort.Function i) = Some (function_binding whole n i)
+bound whole n (sort.Enumerator z) = Some (to.Enumerator z)
+bound whole n sort.Alias = None
 
 abbrev pub note_bound : ℕ → Option Binding → World → World
 note_bound id None w = w
@@ -85,10 +90,10 @@ typed_entry whole n w None = value_of (Int k.Int)
 typed_entry whole n w (Some e) = of_sort e.sort e.type
   where
     of_sort : Sort → CType → Typed
-    of_sort (world.Object i is_fixed) t = lvalue_of t (fixed_address w is_fixed i t)
-    of_sort (world.Function i) t = pointer_of t (a.function_address (function_binding whole n i))
-    of_sort (world.Enumerator z) t = constant_of t (is z)
-    of_sort world.Alias t = value_of t
+    of_sort (sort.Object i is_fixed) t = lvalue_of t (fixed_address w is_fixed i t)
+    of_sort (sort.Function i) t = pointer_of t (a.function_address (function_binding whole n i))
+    of_sort (sort.Enumerator z) t = constant_of t (is z)
+    of_sort sort.Alias t = value_of t
 
 abbrev pub judge_name : Whole → At → List ℕ → M Typed
 judge_name whole at n = do
@@ -105,12 +110,12 @@ typed_number (Some z) = constant_of (Int z.kind) (is z.value)
 abbrev pub judge_number : At → List ℕ → M Typed
 judge_number at n = do
   keep 12 at (is_some (number_of n))
-  change (note_constant at.id (option_map (λ z. a.number z.value) (number_of n)))
+  change (note_constant at.id (option_map (λ z. val.Number z.value) (number_of n)))
   done at (typed_number (number_of n))
 
 abbrev pub judge_char : At → List ℕ → M Typed
 judge_char at c = do
-  change (note_constant at.id (Some (a.number (char_value c))))
+  change (note_constant at.id (Some (val.Number (char_value c))))
   done at (constant_of (Int k.Int) (is (char_value c)))
 
 abbrev pub judge_text : At → List (List ℕ) → M Typed

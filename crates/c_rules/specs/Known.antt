@@ -2,8 +2,9 @@
 use Rattle.std.specs.Prelude.{List, Option}
 use Rattle.c_types.specs.CTypes.{CType}
 use Rattle.c_types.specs.Records.{Records}
-use Rattle.c_rules.specs.Typed.{Binding, ConstantValue}
 use Rattle.c_rules.specs.World.{World, EnumOf, ObjectOf, FunctionOf}
+use Rattle.c_rules.specs.declared.known.Binding.{Binding}
+use Rattle.c_rules.specs.declared.known.ConstantValue.{ConstantValue}
 
 pub record Known : Type 0 where
   -- structs and unions by their numbers, and enumerations

@@ -7,13 +7,17 @@ use Rattle.c_tree.specs.Text.{same_text}
 use Rattle.c_types.specs.CTypes.{CType, Void, Int, Pointer, Function, Qualified, no_types, one_type}
 use Rattle.c_types.specs.Compatible.{is_same}
 use Rattle.c_types.specs.Records.{MemberOf}
-use Rattle.c_rules.specs.World.{World, Entry, Sort, Object, Enumerator, Alias, Tag, TagSort, Struct, Union, Enumeration, find_name, is_here, is_file_scope, is_listed}
+use Rattle.c_rules.specs.World.{World, Entry, Tag, find_name, is_here, is_file_scope, is_listed}
 use Rattle.c_rules.specs.World as world
+use Rattle.c_rules.specs.declared.known.Sort.{Sort}
+use Rattle.c_rules.specs.declared.known.Sort.TheVariants as sort
+use Rattle.c_rules.specs.declared.known.TagSort.{TagSort}
+use Rattle.c_rules.specs.declared.known.TagSort.TheVariants.{Struct, Union, Enumeration}
 
 -- ---- 1: an object, a function or an enumerator in scope
 
 abbrev pub is_alias : Sort → Bool
-is_alias Alias = true
+is_alias sort.Alias = true
 is_alias s = false
 
 abbrev pub names_value : Option Entry → Bool
@@ -23,21 +27,22 @@ names_value (Some e) = not (is_alias e.sort)
 -- ---- 2: once per block; at file scope again with the same type and sort, and with one body and one initialiser at most
 
 abbrev pub sort_number : Sort → ℕ
-sort_number (Object n f) = 0
-sort_number (world.Function n) = 1
-sort_number (Enumerator z) = 2
-sort_number Alias = 3
+sort_number (sort.Object n f) = 0
+sort_number (sort.Function n) = 1
+sort_number (sort.Enumerator z) = 2
+sort_number sort.Alias = 3
 
 -- an enumerator is not declared again
 abbrev pub are_same_sorts : Sort → Sort → Bool
 are_same_sorts s t = (sort_number s == sort_number t) && not (sort_number s == 2)
 
-abbrev pub agrees : Sort → CType → Option Entry → Bool
-agrees s t None = true
-agrees s t (Some e) = are_same_sorts s e.sort && is_same t e.type
+-- where a declarator breaks 4 or 5 it makes no type, so none that is the same
+abbrev pub agrees : Sort → CType → (is_made : Bool) → Option Entry → Bool
+agrees s t is_made None = true
+agrees s t is_made (Some e) = are_same_sorts s e.sort && is_made && is_same t e.type
 
-abbrev pub may_be_again : World → List ℕ → Sort → CType → Bool
-may_be_again w n s t = if is_file_scope w then agrees s t (find_name n w) else not (is_here w n)
+abbrev pub may_be_again : World → List ℕ → Sort → CType → (is_made : Bool) → Bool
+may_be_again w n s t is_made = if is_file_scope w then agrees s t is_made (find_name n w) else not (is_here w n)
 
 abbrev pub is_alias_entry : Option Entry → Bool
 is_alias_entry None = false
@@ -49,9 +54,9 @@ stays_alias w n s =
     if is_alias s then not (is_listed n w.others) else not (is_alias_entry (find_name n w))
 
 -- `completes`: with a body or an initialiser
-abbrev pub may_be_named : World → List ℕ → Sort → CType → (completes : Bool) → Bool
-may_be_named w n s t completes =
-    may_be_again w n s t && stays_alias w n s && not (completes && is_file_scope w && is_listed n w.completed)
+abbrev pub may_be_named : World → List ℕ → Sort → CType → (is_made completes : Bool) → Bool
+may_be_named w n s t is_made completes =
+    may_be_again w n s t is_made && stays_alias w n s && not (completes && is_file_scope w && is_listed n w.completed)
 
 -- ---- 7: a tag is used as one sort, and defined once
 

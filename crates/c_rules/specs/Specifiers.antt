@@ -4,6 +4,8 @@ use Rattle.num_ops.specs.declared.kinds.IntKind.TheVariants as k
 use Rattle.c_tree.specs.Tok.{Word, KTypedef, KExtern, KStatic, KAuto, KRegister, KConst, KVolatile, KRestrict, KVoid, KBool, KChar, KShort, KInt, KLong, KSigned, KUnsigned}
 use Rattle.c_types.specs.CTypes.{CType, Void, Int}
 use Rattle.c_types.specs.Canonical.{with_qualifiers}
+use Rattle.c_rules.specs.declared.known.Holder.{Holder}
+use Rattle.c_rules.specs.declared.known.Holder.TheVariants.{FileDeclaration, BlockDeclaration, Definition, Part}
 
 -- the specifiers that were read: the keywords, and the types that are none; whether a struct, union or enumeration stands there
 pub record Specified : Type 0 where
@@ -127,16 +129,12 @@ base_type s = with_qualifiers (qualifiers_in s.words) (unwrap_or (type_specified
 
 -- ---- rule 3
 
--- what has the specifiers: a declaration at file scope or in a block, a definition, or a field, a parameter or a type name
-pub data Holder : Type 0 where
-  file_declaration block_declaration definition part : Holder
-
 -- `typedef` and functions are declared at file scope, and `extern` stands there only
 abbrev pub may_hold : Holder → List Word → (has_function : Bool) → Bool
-may_hold file_declaration xs has_function = true
-may_hold block_declaration xs has_function = not (has is_typedef xs) && not (has is_extern xs) && not has_function
-may_hold definition xs has_function = not (has is_typedef xs)
-may_hold part xs has_function = not (has is_typedef xs) && not (has is_extern xs)
+may_hold FileDeclaration xs has_function = true
+may_hold BlockDeclaration xs has_function = not (has is_typedef xs) && not (has is_extern xs) && not has_function
+may_hold Definition xs has_function = not (has is_typedef xs)
+may_hold Part xs has_function = not (has is_typedef xs) && not (has is_extern xs)
 
 -- one type, at most one storage class, and without a declarator a struct, a union or an enumeration
 abbrev pub are_specifiers : Holder → Specified → (has_declarator has_function : Bool) → Bool

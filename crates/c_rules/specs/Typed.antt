@@ -4,20 +4,15 @@ use Rattle.num_ops.specs.Conversions.{is_zero}
 use Rattle.c_types.specs.CTypes.{CType}
 use Rattle.c_types.specs.Plain.{plain}
 use Rattle.c_rules.specs.Types.{is_array}
+use Rattle.c_rules.specs.declared.known.Binding.{Binding}
+use Rattle.c_rules.specs.declared.known.ConstantValue.{ConstantValue}
+use Rattle.c_rules.specs.declared.known.ConstantValue.TheVariants as val
 
 -- an integer constant expression (6.6, paragraph 6): there is none, or its evaluation is undefined, or it has a value
 pub data Constant : Type 0 where
   varies : Constant
   undefined : Constant
   is : ℤ → Constant
-
--- what a name is bound to
-pub data Binding : Type 0 where
-  to_object : ℕ → Binding
-  to_function : ℕ → Binding
-  to_enumerator : ℤ → Binding
-  -- a library function, by its number
-  to_library : ℕ → Binding
 
 -- a constant of a pointer's value, or of where an lvalue is (6.6, paragraph 9): so many bytes into an object of static storage,
 -- by its number and size
@@ -93,28 +88,20 @@ moved by (text_address node) = no_address
 
 -- ---- the value of a constant, as it stands before it is converted
 
-pub data ConstantValue : Type 0 where
-  number : ℤ → ConstantValue
-  null_pointer : ConstantValue
-  function_at : Binding → ConstantValue
-  object_at : (number : ℕ) → (offset : ℤ) → ConstantValue
-  -- a string literal, by the number of its node
-  text_at : ℕ → ConstantValue
-
 abbrev pub pointer_value : Address → Option ConstantValue
 pointer_value no_address = None
-pointer_value null_address = Some null_pointer
-pointer_value (function_address b) = Some (function_at b)
-pointer_value (text_address node) = Some (text_at node)
-pointer_value (in_object n size at) = Some (object_at n at)
+pointer_value null_address = Some val.Null
+pointer_value (function_address b) = Some (val.Function b)
+pointer_value (text_address node) = Some (val.Text node)
+pointer_value (in_object n size at) = Some (val.Object n at)
 
 abbrev pub constant_value : Typed → Option ConstantValue
 constant_value x = of_value x.value
   where
     of_pointer : Option ConstantValue
-    of_pointer = if x.is_null then Some null_pointer else pointer_value (pointed x)
+    of_pointer = if x.is_null then Some val.Null else pointer_value (pointed x)
 
     of_value : Constant → Option ConstantValue
-    of_value (is z) = Some (number z)
+    of_value (is z) = Some (val.Number z)
     of_value varies = of_pointer
     of_value undefined = of_pointer

@@ -11,16 +11,22 @@ use Rattle.c_constants.specs.Literals.{text_length}
 use Rattle.c_rules.specs.Types.{settled, element, is_void, is_char, is_scalar}
 use Rattle.c_rules.specs.Typed.{Typed}
 use Rattle.c_rules.specs.World as world
-use Rattle.c_rules.specs.World.{World, Entry, Alias, FunctionOf, find_name, is_file_scope, is_listed, with_name, enter, leave, note_type, note_target, note_binding, size_in, start}
+use Rattle.c_rules.specs.World.{World, Entry, FunctionOf, find_name, is_file_scope, is_listed, with_name, enter, leave, note_type, note_target, note_binding, size_in, start}
 use Rattle.c_rules.specs.Trials.{Trials, over, M, give, ◌>>=◌, ◌>>◌, keep, keep_specifiers, world, change}
-use Rattle.c_rules.specs.Specifiers.{Specified, nothing_specified, base_type, has, is_typedef, is_extern, is_static, Holder, file_declaration, block_declaration, definition, are_specifiers}
-use Rattle.c_rules.specs.Declarators.{Layer, function, Laid, Built, built, makes_function, stays_below, Declares, alias, an_object, a_function, with_length}
+use Rattle.c_rules.specs.Specifiers.{Specified, nothing_specified, base_type, has, is_typedef, is_extern, is_static, are_specifiers}
+use Rattle.c_rules.specs.Declarators.{Layer, function, Laid, Built, is_made, built, makes_function, stays_below, with_length}
 use Rattle.c_rules.specs.Names.{may_be_named, keeps_library}
 use Rattle.c_rules.specs.Expressions.{converts}
 use Rattle.c_rules.specs.Initialisers as i
 use Rattle.c_rules.specs.Initialisers.{may_initialise, is_fixed_given, converts_given, with_targets, with_constants}
 use Rattle.c_rules.specs.Forms.{Whole, bound, note_bound}
 use Rattle.c_rules.specs.Walk.{judge_attribute, judge, judge_specs, judge_layers, judge_built, at_of, at_of_expr, take_number, new_object, declared_name, name_node, newest}
+use Rattle.c_rules.specs.declared.known.Sort.{Sort}
+use Rattle.c_rules.specs.declared.known.Sort.TheVariants as sort
+use Rattle.c_rules.specs.declared.known.Declares.{Declares}
+use Rattle.c_rules.specs.declared.known.Declares.TheVariants as decl
+use Rattle.c_rules.specs.declared.known.Holder.{Holder}
+use Rattle.c_rules.specs.declared.known.Holder.TheVariants.{FileDeclaration, BlockDeclaration, Definition, Part}
 
 -- ---- what stands around a declaration or a statement
 
@@ -77,10 +83,10 @@ function_of u n ty = record { name = n; type = ty; has_body = is_listed n u.bodi
 
 abbrev pub new_function : Whole → List ℕ → CType → World → World
 new_function u n ty w =
-    with_name n (world.Function (length w.functions)) ty (record w { functions = w.functions ++ function_of u n ty ∷ []; others = n ∷ w.others })
+    with_name n (sort.Function (length w.functions)) ty (record w { functions = w.functions ++ function_of u n ty ∷ []; others = n ∷ w.others })
 
 abbrev pub new_alias : List ℕ → CType → World → World
-new_alias n ty w = with_name n Alias (Named n ty) w
+new_alias n ty w = with_name n sort.Alias (Named n ty) w
 
 abbrev pub is_again : World → List ℕ → Bool
 is_again w n = is_file_scope w && is_some (find_name n w)
@@ -90,23 +96,23 @@ complete true n w = if is_file_scope w then record w { completed = n ∷ w.compl
 complete false n w = w
 
 -- a sort and a type by what is declared
-abbrev pub sort_declared : Declares → world.Sort
-sort_declared alias = Alias
-sort_declared an_object = world.Object 0 false
-sort_declared a_function = world.Function 0
-sort_declared Declares.a_member = world.Object 0 false
+abbrev pub sort_declared : Declares → Sort
+sort_declared decl.Type = sort.Alias
+sort_declared decl.Object = sort.Object 0 false
+sort_declared decl.Function = sort.Function 0
+sort_declared decl.Member = sort.Object 0 false
 
 abbrev pub type_declared : Declares → List ℕ → CType → CType
-type_declared alias n ty = Named n ty
-type_declared an_object n ty = ty
-type_declared a_function n ty = ty
-type_declared Declares.a_member n ty = ty
+type_declared decl.Type n ty = Named n ty
+type_declared decl.Object n ty = ty
+type_declared decl.Function n ty = ty
+type_declared decl.Member n ty = ty
 
 abbrev pub named : Whole → Declares → ℕ → At → List ℕ → CType → (is_fixed : Bool) → World → World
-named u alias number at n ty is_fixed w = new_alias n ty w
-named u an_object number at n ty is_fixed w = new_object number at n ty is_fixed w
-named u a_function number at n ty is_fixed w = new_function u n ty w
-named u Declares.a_member number at n ty is_fixed w = w
+named u decl.Type number at n ty is_fixed w = new_alias n ty w
+named u decl.Object number at n ty is_fixed w = new_object number at n ty is_fixed w
+named u decl.Function number at n ty is_fixed w = new_function u n ty w
+named u decl.Member number at n ty is_fixed w = w
 
 abbrev pub named_once : Whole → Declares → ℕ → At → List ℕ → CType → (is_fixed : Bool) → World → World
 named_once u what number at n ty is_fixed w = if is_again w n then w else named u what number at n ty is_fixed w
@@ -125,14 +131,14 @@ introduce u what number at n ty is_fixed completes = do
   change (complete completes n)
 
 abbrev pub declares : (is_typedef : Bool) → CType → List Layer → Declares
-declares true base ls = alias
-declares false base ls = if makes_function base ls then a_function else an_object
+declares true base ls = decl.Type
+declares false base ls = if makes_function base ls then decl.Function else decl.Object
 
 abbrev pub keeps_known : Whole → Declares → List ℕ → CType → Bool
-keeps_known u a_function n ty = keeps_library u.bodies n ty
-keeps_known u alias n ty = true
-keeps_known u an_object n ty = true
-keeps_known u Declares.a_member n ty = true
+keeps_known u decl.Function n ty = keeps_library u.bodies n ty
+keeps_known u decl.Type n ty = true
+keeps_known u decl.Object n ty = true
+keeps_known u decl.Member n ty = true
 
 abbrev pub name_or_none : Option (List ℕ) → List ℕ
 name_or_none (Some n) = n
@@ -142,7 +148,7 @@ name_or_none None = []
 abbrev pub judge_declared : Whole → Declares → ℕ → At → Laid → Built → (is_fixed completes : Bool) → M (Unit {0})
 judge_declared u what number at d b is_fixed completes = do
   w ← world
-  keep 2 at (may_be_named w (name_or_none d.name) (sort_declared what) (type_declared what (name_or_none d.name) b.type) completes)
+  keep 2 at (may_be_named w (name_or_none d.name) (sort_declared what) (type_declared what (name_or_none d.name) b.type) (is_made b) completes)
   judge_built at what b
   keep 34 at (keeps_known u what (name_or_none d.name) b.type)
   introduce u what number d.name_at (name_or_none d.name) b.type is_fixed completes
@@ -156,10 +162,10 @@ judge_attributes (a ∷ more) = do
   judge_attributes more
 
 abbrev pub is_object : Declares → Bool
-is_object an_object = true
-is_object alias = false
-is_object a_function = false
-is_object Declares.a_member = false
+is_object decl.Object = true
+is_object decl.Type = false
+is_object decl.Function = false
+is_object decl.Member = false
 
 -- 10, 11 and 23 at the item
 abbrev pub judge_given : At → Declares → CType → (is_fixed : Bool) → i.Given → M (Unit {0})
@@ -250,7 +256,7 @@ is_empty [] = true
 is_empty (x ∷ xs) = false
 
 abbrev pub holder_of : World → Holder
-holder_of w = if is_file_scope w then file_declaration else block_declaration
+holder_of w = if is_file_scope w then FileDeclaration else BlockDeclaration
 
 -- the typedef name that is declared with a struct, a union or an enumeration: the first whose declarator is the bare name
 abbrev pub is_typedef_specs : t.Specs → Bool
@@ -408,14 +414,14 @@ judge_body u ty es ss = do
 
 abbrev pub judge_definition_of : Whole → t.Declarator → Laid → Built → t.BlockItems → M (Unit {0})
 judge_definition_of u declarator d b ss = do
-  judge_declared u a_function 0 (at_of declarator) d b false true
+  judge_declared u decl.Function 0 (at_of declarator) d b false true
   judge_body u b.type (names_of d.layers) ss
 
 abbrev pub judge_external : Whole → t.External → M (Unit {0})
 judge_external u (t.Declares d) = judge_declaration u d
 judge_external u (t.Definition at ss declarator body_at items) = do
   s ← judge_specs u false None ss nothing_specified
-  keep_specifiers (name_node declarator) at (are_specifiers definition s true true)
+  keep_specifiers (name_node declarator) at (are_specifiers Definition s true true)
   d ← judge_layers u false declarator
   w ← world
   judge_definition_of u declarator d (built w (base_type s) d.layers) items

@@ -10,16 +10,23 @@ use Rattle.c_types.specs.Layout.{layout_at, record_size}
 use Rattle.c_types.specs.Records.{limit, MemberOf, with_declared, with_finished}
 use Rattle.c_constants.specs.Integers.{constant_of}
 use Rattle.c_rules.specs.Types.{decayed}
-use Rattle.c_rules.specs.Typed.{Typed, to_object, Constant, varies, undefined, is, value_of}
+use Rattle.c_rules.specs.Typed.{Typed, Constant, varies, undefined, is, value_of}
 use Rattle.c_rules.specs.World as world
-use Rattle.c_rules.specs.World.{World, Entry, Tag, TagSort, Struct, Union, Enumeration, EnumOf, find_name, find_tag, names_at, with_name, enter, leave, note_type, note_binding, note_object, without_type, is_complete, spelled_name, count_unnamed}
+use Rattle.c_rules.specs.World.{World, Entry, Tag, EnumOf, find_name, find_tag, names_at, with_name, enter, leave, note_type, note_binding, note_object, without_type, is_complete, spelled_name, count_unnamed}
 use Rattle.c_rules.specs.Trials.{M, give, ◌>>=◌, ◌>>◌, keep, keep_specifiers, world, change}
-use Rattle.c_rules.specs.Specifiers.{Specified, nothing_specified, with_word, with_type, base_type, qualifiers_in, part, are_specifiers}
-use Rattle.c_rules.specs.Declarators.{Layer, pointer, array, unsized, function, Laid, Built, built, may_be_declared, Declares, an_object, a_member, alias, is_nothing, is_open_struct}
+use Rattle.c_rules.specs.Specifiers.{Specified, nothing_specified, with_word, with_type, base_type, qualifiers_in, are_specifiers}
+use Rattle.c_rules.specs.Declarators.{Layer, pointer, array, unsized, function, Laid, Built, is_made, built, may_be_declared, is_nothing, is_open_struct}
 use Rattle.c_rules.specs.Names.{may_be_named, is_tag_of, all_differ}
 use Rattle.c_rules.specs.Attributes.{all_known}
 use Rattle.c_rules.specs.Bodies.{any_has_body}
 use Rattle.c_rules.specs.Forms.{Whole, Given, done, judge_name, judge_number, judge_char, judge_text, judge_paren, judge_step, judge_prefix, judge_sizeof, judge_cast, judge_binary, judge_index, judge_comma, judge_cond, judge_assign, operator_of, judge_call, judge_dot, judge_arrow}
+use Rattle.c_rules.specs.declared.known.Binding.TheVariants as to
+use Rattle.c_rules.specs.declared.known.Sort.TheVariants as sort
+use Rattle.c_rules.specs.declared.known.TagSort.{TagSort}
+use Rattle.c_rules.specs.declared.known.TagSort.TheVariants.{Struct, Union, Enumeration}
+use Rattle.c_rules.specs.declared.known.Declares.{Declares}
+use Rattle.c_rules.specs.declared.known.Declares.TheVariants as decl
+use Rattle.c_rules.specs.declared.known.Holder.TheVariants.{FileDeclaration, BlockDeclaration, Definition, Part}
 
 -- where an expression stands: in an integer constant expression or the initialiser of a static object, or elsewhere
 abbrev pub Fixed : Type 0
@@ -90,7 +97,7 @@ note_nameless d ty w = of_layers d.layers
 abbrev pub judge_type : At → CType → Laid → M CType
 judge_type at base d = do
   w ← world
-  judge_built at alias (built w base d.layers)
+  judge_built at decl.Type (built w base d.layers)
   change (note_nameless d (built w base d.layers).type)
   give (built w base d.layers).type
 
@@ -104,7 +111,7 @@ take_number takes local =
 
 abbrev pub new_object : ℕ → At → List ℕ → CType → (is_fixed : Bool) → World → World
 new_object number at n t is_fixed w =
-    note_binding at.id (to_object number) (with_name n (world.Object number is_fixed) t (note_object number t is_fixed (record w { others = n ∷ w.others })))
+    note_binding at.id (to.Object number) (with_name n (sort.Object number is_fixed) t (note_object number t is_fixed (record w { others = n ∷ w.others })))
 
 -- the name that a declarator declares; an abstract declarator has none
 abbrev pub declared_name : t.Declarator → Option (List ℕ)
@@ -128,15 +135,15 @@ used b = record b { type = decayed b.type }
 abbrev pub judge_named_param : ℕ → At → At → List ℕ → Built → M CType
 judge_named_param number at name_at n b = do
   w ← world
-  keep 2 at (may_be_named w n (world.Object 0 false) b.type false)
-  judge_built at an_object b
+  keep 2 at (may_be_named w n (sort.Object 0 false) b.type (is_made b) false)
+  judge_built at decl.Object b
   change (note_type name_at.id b.type)
   change (new_object number name_at n b.type false)
   give b.type
 
 abbrev pub judge_nameless_param : At → Laid → Built → M CType
 judge_nameless_param at d b = do
-  judge_built at an_object b
+  judge_built at decl.Object b
   change (note_nameless d b.type)
   give b.type
 
@@ -168,17 +175,33 @@ abbrev pub tag_sort : Bool → TagSort
 tag_sort true = Union
 tag_sort false = Struct
 
--- the number of the record with a tag, which is made where there is none; a record without a tag is a new one
-abbrev pub new_record : Bool → (tag own : Option (List ℕ)) → World → World
-new_record is_union tag own w =
-    with_tag tag (count_unnamed tag own (record w { records = with_declared is_union (spelled_name w.unnamed tag own) w.records }))
-  where
-    with_tag : Option (List ℕ) → World → World
-    with_tag None v = v
-    with_tag (Some n) v = record v { tags = record { name = n; sort = tag_sort is_union; number = length w.records.heads } ∷ v.tags }
-
 abbrev pub tag_found : World → Option (List ℕ) → Option Tag
 tag_found w tag = option_and_then (λ n. find_tag n w.tags) tag
+
+abbrev pub is_enumeration : TagSort → Bool
+is_enumeration Struct = false
+is_enumeration Union = false
+is_enumeration Enumeration = true
+
+-- the struct or union, and the enumeration, that a tag names
+abbrev pub record_tag : Option Tag → Option Tag
+record_tag None = None
+record_tag (Some g) = if is_enumeration g.sort then None else Some g
+
+abbrev pub enum_tag : Option Tag → Option Tag
+enum_tag None = None
+enum_tag (Some g) = if is_enumeration g.sort then Some g else None
+
+-- the number of the record with a tag, which is made where there is none; a record without a tag is a new one, and so is one
+-- whose tag names an enumeration, which breaks 7
+abbrev pub new_tag : TagSort → ℕ → (tag : Option (List ℕ)) → World → World
+new_tag s number None w = w
+new_tag s number (Some n) w = if is_some (find_tag n w.tags) then w else record w { tags = record { name = n; sort = s; number = number } ∷ w.tags }
+
+abbrev pub new_record : Bool → (tag own : Option (List ℕ)) → World → World
+new_record is_union tag own w =
+    new_tag (tag_sort is_union) (length w.records.heads) tag
+    (count_unnamed tag own (record w { records = with_declared is_union (spelled_name w.unnamed tag own) w.records }))
 
 abbrev pub number_or : ℕ → Option Tag → ℕ
 number_or new None = new
@@ -186,7 +209,7 @@ number_or new (Some g) = g.number
 
 abbrev pub record_number : Bool → (tag own : Option (List ℕ)) → M ℕ
 record_number is_union tag own =
-    λ next w. next (number_or (length w.records.heads) (tag_found w tag)) (if is_some (tag_found w tag) then w else new_record is_union tag own w)
+    λ next w. next (number_or (length w.records.heads) (record_tag (tag_found w tag))) (if is_some (record_tag (tag_found w tag)) then w else new_record is_union tag own w)
 
 abbrev pub is_unfinished : World → ℕ → Bool
 is_unfinished w n = is_none (layout_at w.records.layouts n)
@@ -224,7 +247,7 @@ judge_record_tag at is_union tag n = do
 abbrev pub judge_member : At → CType → Laid → M MemberOf
 judge_member at base d = do
   w ← world
-  judge_built at a_member (closed w (built w base d.layers))
+  judge_built at decl.Member (closed w (built w base d.layers))
   change (note_type d.name_at.id (built w base d.layers).type)
   give (record { name = unwrap_or d.name []; type = (built w base d.layers).type })
   where
@@ -235,15 +258,12 @@ judge_member at base d = do
 
 abbrev pub new_enum : (tag own : Option (List ℕ)) → World → World
 new_enum tag own w =
-    with_tag tag (count_unnamed tag own (record w { enums = w.enums ++ record { name = spelled_name w.unnamed tag own; is_defined = false } ∷ [] }))
-  where
-    with_tag : Option (List ℕ) → World → World
-    with_tag None v = v
-    with_tag (Some n) v = record v { tags = record { name = n; sort = Enumeration; number = length w.enums } ∷ v.tags }
+    new_tag Enumeration (length w.enums) tag
+    (count_unnamed tag own (record w { enums = w.enums ++ record { name = spelled_name w.unnamed tag own; is_defined = false } ∷ [] }))
 
 abbrev pub enum_number : (tag own : Option (List ℕ)) → M ℕ
 enum_number tag own =
-    λ next w. next (number_or (length w.enums) (tag_found w tag)) (if is_some (tag_found w tag) then w else new_enum tag own w)
+    λ next w. next (number_or (length w.enums) (enum_tag (tag_found w tag))) (if is_some (enum_tag (tag_found w tag)) then w else new_enum tag own w)
 
 abbrev pub is_open_enum : World → ℕ → Bool
 is_open_enum w n = of_slot (slice_get w.enums n)
@@ -285,13 +305,13 @@ value_or next varies = next
 value_or next undefined = next
 
 abbrev pub new_enumerator : List ℕ → ℤ → World → World
-new_enumerator n z w = with_name n (world.Enumerator z) (Int k.Int) (record w { others = n ∷ w.others })
+new_enumerator n z w = with_name n (sort.Enumerator z) (Int k.Int) (record w { others = n ∷ w.others })
 
 -- 2 and 8; the value of the next enumerator is one more
 abbrev pub judge_enumerator : At → List ℕ → ℤ → Constant → M ℤ
 judge_enumerator at n next c = do
   w ← world
-  keep 2 at (may_be_named w n (world.Enumerator (value_or next c)) (Int k.Int) false)
+  keep 2 at (may_be_named w n (sort.Enumerator (value_or next c)) (Int k.Int) true false)
   keep 8 at (is_int_constant c)
   change (new_enumerator n (value_or next c))
   give (value_or next c +ℤ pos 1)
@@ -351,7 +371,7 @@ behind_field at (t.declarator d ds) = name_node d
 -- 3: a field, a parameter or a type name
 abbrev pub judge_part : (before : ℕ) → At → Specified → M CType
 judge_part before at s = do
-  keep_specifiers before at (are_specifiers part s true false)
+  keep_specifiers before at (are_specifiers Part s true false)
   give (base_type s)
 
 abbrev mutual

@@ -6,15 +6,10 @@ use Rattle.c_tree.specs.Text.{same_text}
 use Rattle.c_types.specs.CTypes.{CType, Void}
 use Rattle.c_types.specs.Layout.{size}
 use Rattle.c_types.specs.Records.{Records}
-use Rattle.c_rules.specs.Typed.{Binding, ConstantValue}
-
--- what an ordinary identifier names (6.2.3); objects and functions have numbers in the order of their first declarations
-pub data Sort : Type 0 where
-  -- whether it has static storage and is defined in the unit (6.2.4)
-  Object : (number : ℕ) → (is_fixed : Bool) → Sort
-  Function : (number : ℕ) → Sort
-  Enumerator : ℤ → Sort
-  Alias : Sort
+use Rattle.c_rules.specs.declared.known.Sort.{Sort}
+use Rattle.c_rules.specs.declared.known.TagSort.{TagSort}
+use Rattle.c_rules.specs.declared.known.Binding.{Binding}
+use Rattle.c_rules.specs.declared.known.ConstantValue.{ConstantValue}
 
 pub record Entry : Type 0 where
   pub name : List ℕ
@@ -22,10 +17,6 @@ pub record Entry : Type 0 where
   pub type : CType
   -- how many blocks hold its declaration
   pub depth : ℕ
-
--- struct, union or enum (6.2.3)
-pub data TagSort : Type 0 where
-  Struct Union Enumeration : TagSort
 
 pub record Tag : Type 0 where
   pub name : List ℕ

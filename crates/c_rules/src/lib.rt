@@ -8,6 +8,8 @@
 //! (`verdict_law`).
 #![tactic(auto)]
 
+mod known;
 mod laws;
 
+pub use known::{Binding, ConstantValue, Declares, Holder, Sort, TagSort};
 pub use laws::{order_law, verdict_law};

@@ -3,12 +3,13 @@ use Rattle.std.specs.Prelude.{ℕ, suc, false, List, [], ◌∷◌, ◌++◌, ma
 use Rattle.tok_base.specs.declared.token.Token.{Token}
 use Rattle.c_reader.specs.Reader as reader
 use Rattle.c_types.specs.CTypes.{CType}
-use Rattle.c_rules.specs.Typed.{Binding, ConstantValue}
 use Rattle.c_rules.specs.World.{ObjectOf, FunctionOf, start}
 use Rattle.c_rules.specs.Trials.{Verdict, fine, broke, verdict}
 use Rattle.c_rules.specs.Unit.{trials}
 use Rattle.c_rules.specs.Known.{Known, known}
 use Rattle.rule_examples.specs.Judged.{tokens_of}
+use Rattle.c_rules.specs.declared.known.Binding.{Binding}
+use Rattle.c_rules.specs.declared.known.ConstantValue.{ConstantValue}
 
 -- a unit that breaks a rule has nothing
 abbrev pub nothing : Known

@@ -2,9 +2,10 @@
 use Rattle.std.specs.Prelude.{ℕ, true, false, List, [], ◌∷◌, codes, Some, None, pos, negsuc}
 use Rattle.num_ops.specs.declared.kinds.IntKind.TheVariants as k
 use Rattle.c_types.specs.CTypes.{CType, Void, Int, Pointer, Array, Function, Named, Qualified, no_types, one_type}
-use Rattle.c_rules.specs.Typed.{to_function, to_library, number, null_pointer, function_at, object_at, text_at}
 use Rattle.c_rules.specs.World.{ObjectOf, FunctionOf, spelled_name}
 use Rattle.rule_examples.specs.Found.{Row, has_types, has_targets, has_constants, has_objects, has_functions, has_names, typed, valued}
+use Rattle.c_rules.specs.declared.known.Binding.TheVariants as to
+use Rattle.c_rules.specs.declared.known.ConstantValue.TheVariants as val
 
 abbrev int : CType
 int = Int k.Int
@@ -63,22 +64,22 @@ rows =
     ∷ has_targets (codes "char a[] = \"ab\"; char *p = \"ab\";") (typed 7 (Pointer (Int k.Char)) ∷ [])
     ∷ has_targets (codes "int *f(void) { return 0; }") (typed 4 (Pointer int) ∷ [])
     ∷ has_targets (codes "int *p; void f(long a) { p = 0; a += 1; }") (typed 9 (Pointer int) ∷ [])
-    ∷ has_constants (codes "int x = 1 + 2;") (valued 1 (number (pos 1)) ∷ valued 2 (number (pos 2)) ∷ valued 3 (number (pos 3)) ∷ [])
-    ∷ has_constants (codes "void f(void) { int x = 1 + 2; }") (valued 4 (number (pos 1)) ∷ valued 5 (number (pos 2)) ∷ [])
-    ∷ has_constants (codes "void f(void) { static int x = -1; }") (valued 4 (number (pos 1)) ∷ valued 5 (number (negsuc 0)) ∷ [])
+    ∷ has_constants (codes "int x = 1 + 2;") (valued 1 (val.Number (pos 1)) ∷ valued 2 (val.Number (pos 2)) ∷ valued 3 (val.Number (pos 3)) ∷ [])
+    ∷ has_constants (codes "void f(void) { int x = 1 + 2; }") (valued 4 (val.Number (pos 1)) ∷ valued 5 (val.Number (pos 2)) ∷ [])
+    ∷ has_constants (codes "void f(void) { static int x = -1; }") (valued 4 (val.Number (pos 1)) ∷ valued 5 (val.Number (negsuc 0)) ∷ [])
     ∷ has_constants (codes "void f(void) { 'a'; '\\377'; 0x10; }")
-    (valued 3 (number (pos 97)) ∷ valued 5 (number (negsuc 0)) ∷ valued 7 (number (pos 16)) ∷ [])
-    ∷ has_constants (codes "int *p = 0;") (valued 2 (number (pos 0)) ∷ [])
-    ∷ has_constants (codes "void *p = (void *)0;") (valued 5 (number (pos 0)) ∷ valued 6 null_pointer ∷ [])
-    ∷ has_constants (codes "int f(void); int (*g)(void) = f;") (valued 10 (function_at (to_function 0)) ∷ [])
-    ∷ has_constants (codes "void free(void *); void (*g)(void *) = &free;") (valued 15 (function_at (to_library 3)) ∷ [])
+    (valued 3 (val.Number (pos 97)) ∷ valued 5 (val.Number (negsuc 0)) ∷ valued 7 (val.Number (pos 16)) ∷ [])
+    ∷ has_constants (codes "int *p = 0;") (valued 2 (val.Number (pos 0)) ∷ [])
+    ∷ has_constants (codes "void *p = (void *)0;") (valued 5 (val.Number (pos 0)) ∷ valued 6 val.Null ∷ [])
+    ∷ has_constants (codes "int f(void); int (*g)(void) = f;") (valued 10 (val.Function (to.Function 0)) ∷ [])
+    ∷ has_constants (codes "void free(void *); void (*g)(void *) = &free;") (valued 15 (val.Function (to.Library 3)) ∷ [])
     ∷ has_constants (codes "struct s { int a; int b[3]; } x; int *p = &x.b[1];")
-    (valued 3 (number (pos 3)) ∷ valued 14 (number (pos 1)) ∷ valued 16 (object_at 0 (pos 8)) ∷ [])
-    ∷ has_constants (codes "char *p = \"ab\";") (valued 2 (text_at 2) ∷ [])
-    ∷ has_constants (codes "char *p = (\"ab\");") (valued 3 (text_at 2) ∷ [])
+    (valued 3 (val.Number (pos 3)) ∷ valued 14 (val.Number (pos 1)) ∷ valued 16 (val.Object 0 (pos 8)) ∷ [])
+    ∷ has_constants (codes "char *p = \"ab\";") (valued 2 (val.Text 2) ∷ [])
+    ∷ has_constants (codes "char *p = (\"ab\");") (valued 3 (val.Text 2) ∷ [])
     ∷ has_constants (codes "char a[] = \"ab\";") []
-    ∷ has_constants (codes "char *a[2] = { \"x\", 0 };") (valued 1 (number (pos 2)) ∷ valued 4 (text_at 4) ∷ valued 5 (number (pos 0)) ∷ [])
-    ∷ has_constants (codes "_Bool b = &b;") (valued 2 (object_at 0 (pos 0)) ∷ [])
+    ∷ has_constants (codes "char *a[2] = { \"x\", 0 };") (valued 1 (val.Number (pos 2)) ∷ valued 4 (val.Text 4) ∷ valued 5 (val.Number (pos 0)) ∷ [])
+    ∷ has_constants (codes "_Bool b = &b;") (valued 2 (val.Object 0 (pos 0)) ∷ [])
     ∷ has_objects (codes "int a[] = { 1, 2 };") (static (Array int 2) ∷ [])
     ∷ has_objects (codes "char s[] = \"ab\";") (static (Array (Int k.Char) 3) ∷ [])
     ∷ has_objects (codes "extern int x; void f(int a, int b) { static int c; int d; { int e; } }")
