@@ -8,7 +8,7 @@ use c_core::{BlockKind, Fault};
 
 /// A place in a block: its number, and the offset in bytes.
 #[derive(Clone, Copy, Debug, PartialEq, Eq)]
-pub(crate) struct Place {
+pub struct Place {
     pub number: u32,
     pub offset: u64,
 }
@@ -21,7 +21,7 @@ fn overlap(a: Place, b: Place, count: u64) -> bool
 }
 
 /// Whether a copy is undefined because its places overlap.
-pub(crate) fn clashes(may_overlap: bool, to: Place, from: Place, count: u64) -> bool
+pub fn clashes(may_overlap: bool, to: Place, from: Place, count: u64) -> bool
     ensures { result ≡ (not may_overlap && are_over to from count) }
 {
     !may_overlap && overlap(to, from, count)
@@ -29,7 +29,7 @@ pub(crate) fn clashes(may_overlap: bool, to: Place, from: Place, count: u64) -> 
 
 /// The first fault of an access of `count` bytes to a block.
 #[inline]
-pub(crate) fn test(
+pub fn test(
     block: BlockInfo,
     offset: u64,
     count: u64,

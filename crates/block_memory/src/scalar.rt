@@ -40,7 +40,7 @@ fn byte_of(cell: Cell) -> u8
 }
 
 /// The number of which these are the low byte and the rest, which has `count` bytes.
-fn joined(byte: u8, rest: u64, count: usize) -> u64
+pub fn joined(byte: u8, rest: u64, count: usize) -> u64
     requires count { count < 8 }
     requires rest { rest < 2 ^ (8 * count) }
     ensures number { result ≡ byte + 256 * rest }
@@ -157,7 +157,7 @@ fn pointer_cells(p: Pointer) -> [Cell; 8]
 }
 
 /// The value of a kind that has these bits.
-pub(crate) fn int_from(kind: IntKind, bits: u64) -> Int
+pub fn int_from(kind: IntKind, bits: u64) -> Int
     requires { bits < 2 ^ (8 * values.scalar_size (scalar.Int kind)) }
     ensures { result ≡ record { kind = kind; value = values.int_from kind bits } }
 {
@@ -171,7 +171,7 @@ pub(crate) fn int_from(kind: IntKind, bits: u64) -> Int
 }
 
 /// The value that cells hold, or the first fault.
-pub(crate) fn value_in(kind: Scalar, cells: &[Cell]) -> Result<Value, Fault>
+pub fn value_in(kind: Scalar, cells: &[Cell]) -> Result<Value, Fault>
     requires { length cells.now ≡ values.scalar_size kind }
     ensures { result ≡ values.value_in kind cells.now }
 {
@@ -204,14 +204,14 @@ fn modulus(kind: IntKind) -> i128
 }
 
 /// The bits of a value.
-pub(crate) fn bits(n: Int) -> u64
+pub fn bits(n: Int) -> u64
     ensures { result ≡ bits_of n.kind n.value }
 {
     n.value.rem_euclid(modulus(n.kind)) as u64
 }
 
 /// Eight cells that begin with those of a value.
-pub(crate) fn cells_of(value: Value) -> [Cell; 8]
+pub fn cells_of(value: Value) -> [Cell; 8]
     ensures { take (values.scalar_size (values.kind_of value)) result ≡ values.cells_of value }
 {
     match value {

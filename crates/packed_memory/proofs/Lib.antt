@@ -1,0 +1,5 @@
+pub mod Rows
+pub mod Packing
+pub mod Standing
+pub mod RowSteps
+pub mod Whole
