@@ -1,0 +1,11 @@
+pub mod Lines
+pub mod Fields
+pub mod Seen
+pub mod Reading
+pub mod WellFormed
+pub mod Text
+pub mod Phases
+pub mod Cut
+pub mod Noted
+pub mod Laws
+pub mod Examples
