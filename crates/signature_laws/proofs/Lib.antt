@@ -1,6 +1,7 @@
 mod Texts
 mod Names
 pub mod Numbered
+pub mod Tables
 mod Canonical
 mod Fronts
 mod Wholes

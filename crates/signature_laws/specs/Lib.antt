@@ -1,4 +1,5 @@
 pub mod Named
 pub mod Told
 pub mod Laws
+pub mod Tables
 pub mod Rows

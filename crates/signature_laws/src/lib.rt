@@ -7,5 +7,5 @@
 mod laws;
 mod rows;
 
-pub use laws::{every_signature_is_read, signature_is_read, unnamed_is_name};
+pub use laws::{every_signature_is_read, signature_is_read, types_are_named, unnamed_is_name};
 pub use rows::some_examples;
