@@ -3,31 +3,20 @@
 ghost use Rattle.c_tree.specs.Marked as m;
 ghost use Rattle.c_tree.specs.View.{view, view_declarator, view_enumerator_list, view_init, view_spec, view_stmt, view_type_name};
 ghost use Rattle.c_tree.specs.View.{body_of, enumerators_of, exprs_of, inits_of, items_of, list_of, params_of};
-ghost use Rattle.std.specs.Prelude.{◌≡◌, IfOk};
+ghost use Rattle.std.specs.Prelude.{◌≡◌};
 
 use crate::expression::{
     Declarator, Enum, Enumerator, EnumeratorList, Expr, Field, Param, Record, Spec, TypeName,
 };
 use crate::operator::At;
 use crate::statement::{Block, BlockItem, Init, Stmt};
-use std::alloc::{AllocError, Global};
-use tok_base::{Bytes, Items, NoMemory};
-
-/// The value in memory of its own.
-pub fn boxed<T: Drop>(alloc: Global, value: T) -> Result<Box<T>, NoMemory>
-    ensures { IfOk result (λ b. b.value ≡ value) }
-{
-    match Box::new(alloc, value) {
-        Ok(b) => Ok(b),
-        Err(e) => Err(AllocError::from(e).into()),
-    }
-}
+use tok_base::{Bytes, Items};
 
 /// `f(args)`.
-pub fn call(alloc: Global, at: At, f: Expr, args: Items<Expr>) -> Result<Expr, NoMemory>
-    ensures { IfOk result (λ e. view e ≡ m.Call at (view f) (exprs_of args)) }
+pub fn call(at: At, f: Box<Expr>, args: Items<Expr>) -> Expr
+    ensures { view result ≡ m.Call at (view f.value) (exprs_of args) }
 {
-    Ok(Expr::Call(at, boxed(alloc, f)?, args))
+    Expr::Call(at, f, args)
 }
 
 /// `__builtin_infer_alloc_token(args)`.
@@ -38,17 +27,17 @@ pub fn builtin(at: At, args: Items<Expr>) -> Expr
 }
 
 /// `(name)a`.
-pub fn cast(alloc: Global, at: At, name: TypeName, a: Expr) -> Result<Expr, NoMemory>
-    ensures { IfOk result (λ e. view e ≡ m.Cast at (view_type_name name) (view a)) }
+pub fn cast(at: At, name: Box<TypeName>, a: Box<Expr>) -> Expr
+    ensures { view result ≡ m.Cast at (view_type_name name.value) (view a.value) }
 {
-    Ok(Expr::Cast(at, boxed(alloc, name)?, boxed(alloc, a)?))
+    Expr::Cast(at, name, a)
 }
 
 /// `sizeof(name)`.
-pub fn sizeof_type(alloc: Global, at: At, name: TypeName) -> Result<Expr, NoMemory>
-    ensures { IfOk result (λ e. view e ≡ m.SizeofType at (view_type_name name)) }
+pub fn sizeof_type(at: At, name: Box<TypeName>) -> Expr
+    ensures { view result ≡ m.SizeofType at (view_type_name name.value) }
 {
-    Ok(Expr::SizeofType(at, boxed(alloc, name)?))
+    Expr::SizeofType(at, name)
 }
 
 /// `struct tag { fields }` or `union tag { fields }`, without a tag or without a body.
@@ -81,15 +70,10 @@ pub fn enumerator_list(enumerators: Items<Enumerator>, has_comma: bool) -> Enume
 }
 
 /// `d(params)`.
-pub fn function_of(
-    alloc: Global,
-    at: At,
-    d: Declarator,
-    params: Items<Param>,
-) -> Result<Declarator, NoMemory>
-    ensures { IfOk result (λ f. view_declarator f ≡ m.FunctionOf at (view_declarator d) (params_of params)) }
+pub fn function_of(at: At, d: Box<Declarator>, params: Items<Param>) -> Declarator
+    ensures { view_declarator result ≡ m.FunctionOf at (view_declarator d.value) (params_of params) }
 {
-    Ok(Declarator::FunctionOf(at, boxed(alloc, d)?, params))
+    Declarator::FunctionOf(at, d, params)
 }
 
 /// `{ list }`, with a comma behind the list or without one.

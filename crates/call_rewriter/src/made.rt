@@ -13,8 +13,8 @@ use tok_base::NoMemory;
 pub fn call(alloc: Global, at: At, f: held::Expr, args: held::Exprs) -> Result<held::Expr, NoMemory>
     ensures { IfOk result (λ e. view e ≡ m.Call at (view f) (exprs_of args)) }
 {
-    let tree = make::call(alloc, at, f.open(), args.open())?;
-    Ok(held::Expr::new(tree))
+    let f = f.boxed(alloc)?;
+    Ok(held::Expr::new(make::call(at, f.open(), args.open())))
 }
 
 /// `(name)a`.
@@ -26,16 +26,17 @@ pub fn cast(
 ) -> Result<held::Expr, NoMemory>
     ensures { IfOk result (λ e. view e ≡ m.Cast at (view_type_name name) (view a)) }
 {
-    let tree = make::cast(alloc, at, name.open(), a.open())?;
-    Ok(held::Expr::new(tree))
+    let name = name.boxed(alloc)?;
+    let a = a.boxed(alloc)?;
+    Ok(held::Expr::new(make::cast(at, name.open(), a.open())))
 }
 
 /// `sizeof(name)`.
 pub fn sizeof_type(alloc: Global, at: At, name: held::TypeName) -> Result<held::Expr, NoMemory>
     ensures { IfOk result (λ e. view e ≡ m.SizeofType at (view_type_name name)) }
 {
-    let tree = make::sizeof_type(alloc, at, name.open())?;
-    Ok(held::Expr::new(tree))
+    let name = name.boxed(alloc)?;
+    Ok(held::Expr::new(make::sizeof_type(at, name.open())))
 }
 
 /// `d(params)`.
@@ -47,6 +48,6 @@ pub fn function_of(
 ) -> Result<held::Declarator, NoMemory>
     ensures { IfOk result (λ f. view_declarator f ≡ m.FunctionOf at (view_declarator d) (params_of params)) }
 {
-    let tree = make::function_of(alloc, at, d.open(), params.open())?;
-    Ok(held::Declarator::new(tree))
+    let d = d.boxed(alloc)?;
+    Ok(held::Declarator::new(make::function_of(at, d.open(), params.open())))
 }

@@ -147,16 +147,8 @@ pub fn expr(alloc: Global, plan: Plan, k: &mut u32, a: &Expr) -> Result<held::Ex
                 made::call(alloc, *at, f, xs)
             }
         },
-        Expr::Dot(at, a, n) => {
-            let n = bytes(alloc, n)?;
-            let a = boxed(alloc, plan, k, a)?;
-            Ok(held::Expr::new(Expr::Dot(*at, a.open(), n)))
-        }
-        Expr::Arrow(at, a, n) => {
-            let n = bytes(alloc, n)?;
-            let a = boxed(alloc, plan, k, a)?;
-            Ok(held::Expr::new(Expr::Arrow(*at, a.open(), n)))
-        }
+        Expr::Dot(at, a, n) => dot(alloc, plan, k, *at, a, n),
+        Expr::Arrow(at, a, n) => arrow(alloc, plan, k, *at, a, n),
         Expr::Post(at, a, op) => {
             let a = boxed(alloc, plan, k, a)?;
             Ok(held::Expr::new(Expr::Post(*at, a.open(), *op)))
@@ -298,6 +290,38 @@ fn index(
     let a = boxed(alloc, plan, k, a)?;
     let b = boxed(alloc, plan, k, b)?;
     Ok(held::Expr::new(Expr::Index(at, a.open(), b.open())))
+}
+
+#[cycle(tag)]
+fn dot(
+    alloc: Global,
+    plan: Plan,
+    k: &mut u32,
+    at: At,
+    a: &Expr,
+    n: &Bytes,
+) -> Result<held::Expr, NoMemory>
+    ensures { IfOk result (λ e. Tags plan.max k.old k.new (tagged.one (λ a. u.Dot a n.now) (tagged.tag plan.max (hooks_seen plan.hooks) (bare (view a.now)))) (bare (view e))) }
+{
+    let n = bytes(alloc, n)?;
+    let a = boxed(alloc, plan, k, a)?;
+    Ok(held::Expr::new(Expr::Dot(at, a.open(), n)))
+}
+
+#[cycle(tag)]
+fn arrow(
+    alloc: Global,
+    plan: Plan,
+    k: &mut u32,
+    at: At,
+    a: &Expr,
+    n: &Bytes,
+) -> Result<held::Expr, NoMemory>
+    ensures { IfOk result (λ e. Tags plan.max k.old k.new (tagged.one (λ a. u.Arrow a n.now) (tagged.tag plan.max (hooks_seen plan.hooks) (bare (view a.now)))) (bare (view e))) }
+{
+    let n = bytes(alloc, n)?;
+    let a = boxed(alloc, plan, k, a)?;
+    Ok(held::Expr::new(Expr::Arrow(at, a.open(), n)))
 }
 
 /// The builtin, in whose operands no call is a site.

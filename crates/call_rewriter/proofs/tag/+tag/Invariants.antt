@@ -77,6 +77,12 @@ decreases-maybe l = 3 * goal.size-maybe l + 2
 abbrev pub decreases-maybe_declarator : goal.decreases-maybe_declarator
 decreases-maybe_declarator l = 3 * goal.size-maybe_declarator l + 2
 
+abbrev pub decreases-dot : goal.decreases-dot
+decreases-dot l = 3 * goal.size-dot l + 2
+
+abbrev pub decreases-arrow : goal.decreases-arrow
+decreases-arrow l = 3 * goal.size-arrow l + 2
+
 abbrev pub decreases-comma : goal.decreases-comma
 decreases-comma l = 3 * max (size-Expr l.a.now) (size-Expr l.b.now) + 2
 
