@@ -10,7 +10,7 @@ use Rattle.c_tree.specs.View.{view_unit}
 use Rattle.c_tree.specs.declared.statement.Unit.{Unit}
 use Rattle.c_reader.specs.MarkedInside as r
 use Rattle.c_reader.specs.Reader as reader
-use Rattle.c_stack.specs.Views.{view_mode}
+use Rattle.c_state.specs.Held.{view_held}
 use Rattle.c_parser.specs.declared.reader.State.{State}
 use Rattle.c_parser.specs.declared.reader.Refused.{Refused}
 use Rattle.c_parser.specs.declared.reader.Refused as no
@@ -52,7 +52,7 @@ pub record IsTooDeep (ls : List Lexeme) : Type 0 where
 -- ---- inside
 
 abbrev pub view_state : State → r.Next
-view_state s = record { id = s.id; env = s.names; mode = view_mode s.mode }
+view_state s = record { id = s.id; env = s.names; mode = view_held s.mode }
 
 abbrev pub IsHigh : Option r.Next → Type 0
 IsHigh None = ⊥
@@ -83,7 +83,7 @@ Ended (Err end.TheVariants.TooDeep) n m = ⊥
 Ended (Err end.TheVariants.NoMemory) n m = ⊥
 
 abbrev pub Finished : Result State ParseEnd → ℕ → Result Unit ParseEnd → Type 0
-Finished (Ok s) n r = Ended r n (view_mode s.mode)
+Finished (Ok s) n r = Ended r n (view_held s.mode)
 Finished (Err e) n r = r ≡ Err e
 
 -- the reader's answer, unless memory ran out

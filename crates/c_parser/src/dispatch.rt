@@ -5,27 +5,28 @@ ghost use Rattle.c_reader.specs.MarkedBegin as begin;
 ghost use Rattle.c_reader.specs.MarkedInside as inside;
 ghost use Rattle.c_reader.specs.Reader as reader;
 ghost use Rattle.c_stack.specs.Gives.{Gives};
-ghost use Rattle.c_stack.specs.Seen.{view_symbol};
-ghost use Rattle.c_stack.specs.Shown.{shown_external};
+ghost use Rattle.c_state.specs.Held.{view_held};
+ghost use Rattle.c_symbol.specs.Seen.{view_symbol};
+ghost use Rattle.c_symbol.specs.Shown.{shown_external};
 ghost use Rattle.c_stack.specs.Views.{view_declarator_mode, view_in_params, view_mode, view_specs_mode};
 
 use c_held::Externals;
 use c_stack::inside::{DeclaratorMode, InParams, Mode, Next, SpecsMode};
-use c_stack::names::Names;
-use c_stack::numbers::refuse;
 use c_stack::place::{DeclarationFrame, DeclarationPlace, SpecsFrame, SpecsPlace};
-use c_stack::step::StepEnd;
-use c_stack::symbol::{Symbol, symbol_of};
+use c_state::HeldMode;
+use c_symbol::names::Names;
+use c_symbol::step::StepEnd;
+use c_symbol::symbol::{Symbol, symbol_of};
+use read_attribute::attribute_next;
 use read_begin::first_spec;
-use read_declarator::{
-    array_next, declarator_next, init_begin, opened_next, params_next, star_next,
-};
-use read_end::{declarator_begin, init_next, item_next};
+use read_bracket::{array_next, init_begin, params_next};
+use read_declarator::{declarator_next, opened_next, star_next};
+use read_end::declarator_begin;
 use read_expression::expr_next;
-use read_specifier::{
-    enumerator_begin, enumerator_next, field_begin, specs_next, tag_next, tagged_next,
-};
-use read_statement::{attribute_next, stmt_mode_next};
+use read_item::{init_next, item_next};
+use read_specifier::{enumerator_begin, enumerator_next, field_begin, specs_next, tag_next};
+use read_statement::stmt_mode_next;
+use read_tag::tagged_next;
 use std::alloc::Global;
 use tok_base::{Span, Token};
 
@@ -140,13 +141,13 @@ pub fn one_token(
     names: &Names,
     id: u32,
     end: u32,
-    mode: Mode,
+    mode: HeldMode,
     token: &Token,
 ) -> Result<Next, StepEnd>
-    ensures { Gives names.now result (reader.token_step (record { id = id; env = names.now; mode = view_mode mode }) end token.now) }
+    ensures { Gives names.now result (reader.token_step (record { id = id; env = names.now; mode = view_held mode }) end token.now) }
 {
     match symbol_of(token) {
-        Some(y) => step_at(alloc, names, id, end, mode, y, token.span),
-        None => refuse(mode),
+        Some(y) => step_at(alloc, names, id, end, mode.open(), y, token.span),
+        None => Err(StepEnd::Wrong),
     }
 }

@@ -14,12 +14,14 @@ ghost use Rattle.c_reader.specs.Reader as reader;
 ghost use Rattle.c_stack.specs.Gives.{Gives, env_after};
 ghost use Rattle.c_parser.specs.Parsed.{Answers, Ended, Finished, IsParsed, IsTooDeep, IsWrongAt, Parsed, Reached, Takes, view_state};
 ghost use Rattle.c_stack.specs.Views.{view_mode};
+ghost use Rattle.c_state.specs.Held.{view_held};
 
 use crate::dispatch::one_token;
 use c_held::Externals;
 use c_stack::inside::{Mode, Next};
-use c_stack::names::Names;
-use c_stack::step::StepEnd;
+use c_state::HeldMode;
+use c_symbol::names::Names;
+use c_symbol::step::StepEnd;
 use c_tree::Unit;
 use std::alloc::{AllocError, Global};
 use thiserror::Error;
@@ -44,7 +46,7 @@ pub enum ParseEnd {
 pub struct State {
     pub id: u32,
     pub names: Names,
-    pub mode: Mode,
+    pub mode: HeldMode,
 }
 
 /// Why a token leads nowhere.
@@ -66,25 +68,19 @@ fn with_name(mut names: Names, name: Option<Bytes>) -> Result<Names, AllocError>
     Ok(names)
 }
 
-/// Lets what was read so far go.
-fn give_up<T: Drop>(_: T, why: Refused) -> Result<State, Refused>
-    ensures { result ≡ Err why }
-{
-    Err(why)
-}
-
 /// The next state, if a flat unit may begin so.
 fn enter(names: Names, next: Next) -> Result<State, Refused>
     ensures { Takes result (inside.go_on next.id (env_after next.name names) (view_mode next.mode)) }
 {
     let Next { id, name, mode } = next;
+    let mode = HeldMode::new(mode);
     if mode.is_low() {
         match with_name(names, name) {
             Ok(names) => Ok(State { id, names, mode }),
-            Err(_) => give_up(mode, Refused::NoMemory),
+            Err(_) => Err(Refused::NoMemory),
         }
     } else {
-        give_up((names, name, mode), Refused::TooDeep)
+        Err(Refused::TooDeep)
     }
 }
 
@@ -108,7 +104,7 @@ fn read_tokens(alloc: Global, tokens: &[Token]) -> Result<State, ParseEnd>
     let mut state = State {
         id: 0,
         names: Names::new(alloc),
-        mode: Mode::WantExternal(0, Externals::new(alloc)),
+        mode: HeldMode::new(Mode::WantExternal(0, Externals::new(alloc))),
     };
     for (i, token) in tokens.iter().enumerate() {
         match take_token(alloc, state, end, token) {
@@ -124,29 +120,16 @@ fn read_tokens(alloc: Global, tokens: &[Token]) -> Result<State, ParseEnd>
     Ok(state)
 }
 
-/// Lets what was read so far go.
-fn refuse<T: Drop>(_: T, count: u32) -> Result<Unit, ParseEnd>
-    ensures { result ≡ Err (ParseEnd.Syntax count) }
+/// The unit, where one may end there.
+#[tactic(auto, unfolding(c_symbol::specs::Shown::shown_external))]
+fn unit_of(mode: HeldMode, count: u32) -> Result<Unit, ParseEnd>
+    ensures { Ended result count (view_held mode) }
 {
-    Err(ParseEnd::Syntax(count))
-}
-
-#[tactic(auto, unfolding(c_stack::specs::Shown::shown_external))]
-fn unit_of(mode: Mode, count: u32) -> Result<Unit, ParseEnd>
-    ensures { Ended result count (view_mode mode) }
-{
-    match mode {
-        Mode::WantExternal(_, items) => Ok(Unit {
+    match mode.finished() {
+        Some(items) => Ok(Unit {
             items: items.open(),
         }),
-        Mode::Attribute(_, m, a) => refuse((m, a), count),
-        Mode::Specs(m) => refuse(m, count),
-        Mode::Declarator(m) => refuse(m, count),
-        Mode::AfterAttributes(r) => refuse(r, count),
-        Mode::WantInit(k) => refuse(k, count),
-        Mode::AfterInit(_, k, i) => refuse((k, i), count),
-        Mode::Expr(m) => refuse(m, count),
-        Mode::Stmt(m) => refuse(m, count),
+        None => Err(ParseEnd::Syntax(count)),
     }
 }
 

@@ -4,7 +4,7 @@ use Rattle.c_tree.specs.Wf.{Env}
 use Rattle.c_reader.specs.MarkedInside as r
 use Rattle.c_stack.specs.Gives.{Gives}
 use Rattle.c_stack.specs.declared.inside.Next.{Next}
-use Rattle.c_stack.specs.declared.step.StepEnd.{StepEnd}
+use Rattle.c_symbol.specs.declared.step.StepEnd.{StepEnd}
 
 -- what gives the one gives the other
 pub gives : (env : Env) (a : Result Next StepEnd) (x y : Option r.Next) → x ≡ y → Gives env a x → Gives env a y

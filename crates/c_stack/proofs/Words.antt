@@ -4,7 +4,7 @@ use Rattle.c_tree.specs.View as v
 use Rattle.c_tree.specs.declared.operator.Keyword.{Keyword}
 use Rattle.c_tree.specs.declared.operator.Keyword.TheVariants as k
 use Rattle.c_reader.specs.Symbol.{keyword_word}
-use Rattle.c_stack.specs.Seen.{view_keyword}
+use Rattle.c_symbol.specs.Seen.{view_keyword}
 
 pub same_word : (w : Keyword) → v.view_keyword w ≡ keyword_word (view_keyword w)
 same_word k.Typedef = refl

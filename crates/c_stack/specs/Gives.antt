@@ -1,10 +1,10 @@
 -- What a step answers.
-use Rattle.std.specs.Prelude.{◌≡◌, ℕ, Bool, true, false, List, [], ◌∷◌, Option, Some, None, Result, Ok, Err}
+use Rattle.std.specs.Prelude.{◌≡◌, ℕ, List, ◌∷◌, Option, Some, None, Result, Ok, Err}
 use Rattle.c_tree.specs.Wf.{Env}
 use Rattle.c_reader.specs.MarkedInside as r
 use Rattle.c_stack.specs.Views.{view_mode}
 use Rattle.c_stack.specs.declared.inside.Next.{Next}
-use Rattle.c_stack.specs.declared.step.StepEnd as end
+use Rattle.c_symbol.specs.declared.step.StepEnd as end
 
 -- the typedef names, with the one that the token made
 abbrev pub env_after : Option (List ℕ) → Env → Env
@@ -16,8 +16,3 @@ abbrev pub Gives : Env → Result Next end.StepEnd → Option r.Next → Type 0
 Gives env (Ok x) o = o ≡ r.go_on x.id (env_after x.name env) (view_mode x.mode)
 Gives env (Err end.TheVariants.Wrong) o = o ≡ None
 Gives env (Err end.TheVariants.NoMemory) o = Unit {0}
-
--- the name that a declarator makes a typedef name
-abbrev pub made_name : Bool → Option (List ℕ) → Option (List ℕ)
-made_name true n = n
-made_name false n = None

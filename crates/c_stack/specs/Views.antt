@@ -1,12 +1,11 @@
 -- The program's stack and modes, seen as the reader's.
-use Rattle.std.specs.Prelude.{◌≡◌, ℕ, List, Bool, map, Option, Some, None}
+use Rattle.std.specs.Prelude.{map}
 use Rattle.c_tree.specs.View.{view_op, view_assign, view_prefix}
 use Rattle.c_reader.specs.MarkedParts as p
 use Rattle.c_reader.specs.MarkedInside as r
-use Rattle.c_stack.specs.Seen.{view_tagged, view_member}
-use Rattle.c_stack.specs.Shown.{shown, shown_maybe, shown_type, shown_spec, shown_specs, shown_declarator, shown_field, shown_enumerator, shown_param, shown_qualifiers, shown_argument, shown_entry, shown_attribute, shown_init, shown_item, shown_first, shown_stmt, shown_block_item, shown_external}
-use Rattle.c_stack.specs.declared.inside.Open.{Open}
-use Rattle.c_stack.specs.declared.inside.Had.{Had}
+use Rattle.c_symbol.specs.Seen.{view_tagged, view_member}
+use Rattle.c_symbol.specs.Shown.{shown, shown_maybe, shown_type, shown_spec, shown_specs, shown_declarator, shown_field, shown_enumerator, shown_param, shown_qualifiers, shown_argument, shown_entry, shown_attribute, shown_init, shown_item, shown_first, shown_stmt, shown_block_item, shown_external}
+use Rattle.c_symbol.specs.Nodes.{view_open, view_had}
 use Rattle.c_stack.specs.declared.place.StmtPlace.{StmtPlace}
 use Rattle.c_stack.specs.declared.place.BodyPlace.{BodyPlace}
 use Rattle.c_stack.specs.declared.place.DeclarationPlace.{DeclarationPlace}
@@ -77,12 +76,6 @@ use Rattle.c_stack.specs.declared.inside.StmtMode.{StmtMode}
 use Rattle.c_stack.specs.declared.inside.StmtMode.TheVariants as tm
 use Rattle.c_stack.specs.declared.inside.Mode.{Mode}
 use Rattle.c_stack.specs.declared.inside.Mode.TheVariants as m
-
-abbrev pub view_open : Open → p.Open
-view_open x = record { from = x.from; level = x.level; deep = x.deep }
-
-abbrev pub view_had : Had → p.Had
-view_had x = record { from = x.from; deep = x.deep }
 
 -- ---- parts that were read, in their places
 

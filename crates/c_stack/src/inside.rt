@@ -4,33 +4,18 @@ ghost use Rattle.std.specs.Prelude.{◌≡◌, None};
 ghost use Rattle.c_stack.specs.declared.inside.Mode.TheVariants as modes;
 
 use crate::place::{
-    BodyPlace, DeclarationPlace, DeclaratorPlace, ExprPlace, InitPlace, SpecsPlace, StmtPlace,
+    DeclarationPlace, DeclaratorPlace, ExprPlace, InitPlace, SpecsPlace, StmtPlace,
 };
-use crate::symbol::{Member, Tagged};
 use c_held::{
     Arguments, Attributes, BlockItems, Declarator, Declarators, DeclaredItems, Entries,
     Enumerators, Expr, Exprs, Externals, Fields, ForFirst, Init, Inits, Params, Specs, Stmt,
     TypeName,
 };
+use c_symbol::node::{Had, Open};
+use c_symbol::symbol::{Member, Tagged};
 use c_tree::{AssignOp, BinaryOp, PrefixOp, Qualifier};
 use std::convert::Infallible;
 use tok_base::{Bytes, Items};
-
-/// A node that is open: the byte where it begins, how many nodes hold what stands in it (its own
-/// included), and the greatest depth of its parts so far.
-#[derive(Clone, Copy, Debug)]
-pub struct Open {
-    pub from: u32,
-    pub level: u32,
-    pub deep: u32,
-}
-
-/// A part that was read: the byte where it begins, and its depth.
-#[derive(Clone, Copy, Debug)]
-pub struct Had {
-    pub from: u32,
-    pub deep: u32,
-}
 
 // ---- statements and declarations
 

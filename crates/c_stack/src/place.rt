@@ -7,9 +7,10 @@ ghost use Rattle.c_stack.specs.Views.{view_body_frame, view_body_place, view_dec
 
 use crate::inside::{
     Bracket, EnumRead, InBody, InDeclaration, InDeclarator, InExpr, InInit, InSpecs, InStmt,
-    ItemHead, ItemsRead, Open, Operand, ParamsRead, Part, RecordRead, TypePlace,
+    ItemHead, ItemsRead, Operand, ParamsRead, Part, RecordRead, TypePlace,
 };
 use c_held::{BlockItems, Declarator, Declarators, Expr, Externals, ForFirst, Inits, Specs, Stmt};
+use c_symbol::node::Open;
 use c_tree::Qualifier;
 use std::alloc::{AllocError, Global};
 use tok_base::{Bytes, Items};

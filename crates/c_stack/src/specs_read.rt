@@ -1,19 +1,44 @@
 //! Specifiers that were read, with one more.
 
-ghost use Rattle.std.specs.Prelude.{◌≡◌, IfOk, IfErr};
+ghost use Rattle.std.specs.Prelude.{◌≡◌, [], ◌∷◌, ◌++◌, IfOk, map};
+ghost use Rattle.c_tree.specs.View as tree;
 ghost use Rattle.c_tree.specs.Wf as wf;
 ghost use Rattle.c_reader.specs.MarkedParts as parts;
 ghost use Rattle.c_reader.specs.Parts as bare;
 ghost use Rattle.c_reader.specs.Symbol.{keyword_word};
-ghost use Rattle.c_stack.specs.Seen.{view_keyword};
-ghost use Rattle.c_stack.specs.Shown.{shown_attribute, shown_spec};
-ghost use Rattle.c_stack.specs.Views.{view_open, view_specs_read};
+ghost use Rattle.c_symbol.specs.Seen.{view_keyword};
+ghost use Rattle.c_symbol.specs.Shown.{shown_attribute, shown_spec};
+ghost use Rattle.c_stack.specs.Views.{view_specs_read};
+ghost use Rattle.c_symbol.specs.Nodes.{view_open};
 
-use crate::inside::{Open, SpecsRead};
-use crate::parts::{attribute_spec, keyword, with_spec};
+use crate::inside::SpecsRead;
 use c_held::Specs;
+use c_symbol::node::Open;
 use c_tree::{Attribute, Keyword, Spec};
 use std::alloc::{AllocError, Global};
+
+/// A specifier of one word.
+#[tactic(auto, unfolding(c_symbol::specs::Shown::shown_spec))]
+fn keyword(word: Keyword) -> Spec
+    ensures { shown_spec result ≡ parts.keyword (tree.view_keyword word) }
+{
+    Spec::Keyword(word)
+}
+
+/// An attribute among specifiers.
+#[tactic(auto, unfolding(c_symbol::specs::Shown::shown_spec, c_symbol::specs::Shown::shown_attribute))]
+fn attribute_spec(attribute: Attribute) -> Spec
+    ensures { shown_spec result ≡ parts.attribute (shown_attribute attribute) }
+{
+    Spec::Attribute(attribute)
+}
+
+/// The specifiers with one more.
+fn with_spec(specs: Specs, s: Spec) -> Result<Specs, AllocError>
+    ensures { IfOk result (λ ss. map shown_spec ss ≡ map shown_spec specs ++ shown_spec s ∷ []) }
+{
+    specs.with(s)
+}
 
 /// Whether it specifies a type (ISO/IEC 9899:2018, 6.7.2).
 fn is_specifier(word: Keyword) -> bool

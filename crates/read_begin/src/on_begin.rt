@@ -10,20 +10,21 @@ ghost use Rattle.c_reader.specs.MarkedInside as reader;
 ghost use Rattle.c_reader.specs.MarkedParts as parts;
 ghost use Rattle.c_reader.specs.Symbol.{keyword_word};
 ghost use Rattle.c_stack.specs.Gives.{Gives};
-ghost use Rattle.c_stack.specs.Seen.{view_keyword, view_negation, view_operator, view_symbol, view_tagged};
-ghost use Rattle.c_stack.specs.Shown.{shown};
+ghost use Rattle.c_symbol.specs.Seen.{view_keyword, view_negation, view_operator, view_symbol, view_tagged};
+ghost use Rattle.c_symbol.specs.Shown.{shown};
 ghost use Rattle.c_stack.specs.Views.{view_expr_place, view_specs_place, view_specs_read};
 
 use c_held::Expr;
+use c_parts::expression::{character, name, number};
+use c_parts::specifier::typedef_name;
 use c_stack::inside::{
-    AttributeMode, ExprMode, Had, InAttribute, Mode, Next, Open, Operand, SpecsMode, SpecsRead,
+    AttributeMode, ExprMode, InAttribute, Mode, Next, Operand, SpecsMode, SpecsRead,
 };
-use c_stack::make::{character, mark, name, number};
-use c_stack::names::Names;
-use c_stack::parts::typedef_name;
 use c_stack::place::{ExprFrame, ExprPlace, SpecsPlace};
-use c_stack::step::{StepEnd, following};
-use c_stack::symbol::{Negation, Operator, Symbol, Tagged};
+use c_symbol::names::Names;
+use c_symbol::node::{Had, Open, mark};
+use c_symbol::step::{StepEnd, following};
+use c_symbol::symbol::{Negation, Operator, Symbol, Tagged};
 use c_tree::{BinaryOp, Keyword, PrefixOp, Step};
 use std::alloc::{AllocError, Global};
 use tok_base::{Bytes, Items, Span};

@@ -1,31 +1,17 @@
--- Declarations and declarators: what a step does with the tokens that have no case of their own.
-use Rattle.std.proofs.Common.{◌≡◌, ℕ, suc, true, false, if◌then◌else◌, List, [], ◌∷◌, Bor, refl}
+-- Declarators: what a step does with the tokens that have no case of their own.
+use Rattle.std.proofs.Common.{◌≡◌, ℕ, false, if◌then◌else◌, List, refl}
 use Rattle.tok_base.specs.declared.token.Span.{Span}
 use Rattle.c_tree.specs.Tok.{Word}
 use Rattle.c_tree.specs.Marked as u
 use Rattle.c_tree.specs.Wf.{Env}
 use Rattle.c_tree.specs.declared.operator.Keyword.{Keyword}
 use Rattle.c_reader.specs.Begin.{begins_specs}
-use Rattle.c_reader.specs.MarkedParts.{Open, Had, takes}
+use Rattle.c_reader.specs.MarkedParts.{Open, Had}
 use Rattle.c_reader.specs.MarkedInside as r
-use Rattle.c_reader.specs.MarkedBegin as begin
-use Rattle.c_reader.specs.MarkedDeclarations as d
 use Rattle.c_reader.specs.MarkedDeclarators as m
-use Rattle.c_stack.specs.Seen.{view_symbol}
-use Rattle.c_stack.specs.declared.symbol.Symbol.{Symbol}
-use Rattle.c_stack.specs.declared.symbol.Symbol.TheVariants as s
-use Rattle.c_stack.specs.declared.symbol.Operator.{Operator}
-
--- ---- declarations
-
-pub init_rest : (n : ℕ) (env : Env) (k : r.InInit) (y : Symbol) (at : Span)
-    → (y ≡ s.LeftBrace → ⊥) → (y ≡ s.RightBrace → ⊥)
-    → d.init_begin n env k (view_symbol y) at ≡ begin.want n env (r.in_init k) (view_symbol y) at
-init_rest n env k s.LeftBrace at a b = absurd (a refl)
-init_rest n env k s.RightBrace at a b = absurd (b refl)
-init_rest n env k _ at a b = refl
-
--- ---- declarators
+use Rattle.c_symbol.specs.Seen.{view_symbol}
+use Rattle.c_symbol.specs.declared.symbol.Symbol.{Symbol}
+use Rattle.c_symbol.specs.declared.symbol.Symbol.TheVariants as s
 
 pub star_rest : (n e : ℕ) (env : Env) (o : Open) (qs : List Word) (k : r.InDeclarator) (y : Symbol) (at : Span)
     → ((w : Keyword) → y ≡ s.Keyword w → ⊥)
@@ -38,18 +24,6 @@ pub opened_rest : (n e : ℕ) (env : Env) (o : Open) (k : r.InDeclarator) (y : S
     → m.opened_next n e env o k (view_symbol y) at ≡ (if begins_specs env false (view_symbol y) then m.open_params n env o k (view_symbol y) at else m.declarator_begin n e env (r.in_group o k) (view_symbol y) at)
 opened_rest n e env o k s.RightParen at a = absurd (a refl)
 opened_rest n e env o k _ at a = refl
-
-pub array_rest : (n : ℕ) (env : Env) (o : Open) (x : u.Declarator) (k : r.InDeclarator) (y : Symbol) (at : Span)
-    → (y ≡ s.RightBracket → ⊥)
-    → m.array_next n env o x k (view_symbol y) at ≡ begin.want n env (r.in_array o x k) (view_symbol y) at
-array_rest n env o x k s.RightBracket at a = absurd (a refl)
-array_rest n env o x k _ at a = refl
-
-pub params_rest : (n : ℕ) (env : Env) (o : Open) (x : u.Declarator) (k : r.InDeclarator) (y : Symbol) (at : Span)
-    → (y ≡ s.RightParen → ⊥)
-    → m.params_next n env o x k (view_symbol y) at ≡ begin.first_spec n env (r.of_param (r.in_params o x [] k)) (view_symbol y) at
-params_rest n env o x k s.RightParen at a = absurd (a refl)
-params_rest n env o x k _ at a = refl
 
 pub declarator_rest : (n e : ℕ) (env : Env) (h : Had) (k : r.InDeclarator) (x : u.Declarator) (y : Symbol) (at : Span)
     → (y ≡ s.LeftBracket → ⊥) → (y ≡ s.LeftParen → ⊥)

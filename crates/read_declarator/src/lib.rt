@@ -1,8 +1,6 @@
-//! What a token does in declarators, and where an initialiser begins.
+//! What a token does in declarators.
 #![tactic(auto)]
 
 mod on_declarator;
-mod on_init;
 
-pub use on_declarator::{array_next, declarator_next, opened_next, params_next, star_next};
-pub use on_init::init_begin;
+pub use on_declarator::{declarator_next, opened_next, star_next};

@@ -7,9 +7,9 @@ use Rattle.c_reader.specs.MarkedParts.{Open, mark, leaf}
 use Rattle.c_reader.specs.MarkedInside as r
 use Rattle.c_reader.specs.MarkedBegin as begin
 use Rattle.c_reader.specs.MarkedExprs as m
-use Rattle.c_stack.specs.Seen.{view_symbol}
-use Rattle.c_stack.specs.declared.symbol.Symbol.{Symbol}
-use Rattle.c_stack.specs.declared.symbol.Symbol.TheVariants as s
+use Rattle.c_symbol.specs.Seen.{view_symbol}
+use Rattle.c_symbol.specs.declared.symbol.Symbol.{Symbol}
+use Rattle.c_symbol.specs.declared.symbol.Symbol.TheVariants as s
 
 pub text_rest : (n e : ℕ) (env : Env) (from : ℕ) (k : r.InExpr) (xs : List (List ℕ)) (y : Symbol) (at : Span)
     → ((x : Bor (List ℕ)) → y ≡ s.Text x → ⊥)

@@ -8,10 +8,10 @@ use Rattle.c_reader.specs.MarkedInside as r
 use Rattle.c_reader.specs.MarkedBegin as begin
 use Rattle.c_reader.specs.MarkedSpecs as m
 use Rattle.c_reader.specs.Symbol.{Tagged}
-use Rattle.c_stack.specs.Seen.{view_symbol}
-use Rattle.c_stack.specs.declared.symbol.Operator.{Operator}
-use Rattle.c_stack.specs.declared.symbol.Symbol.{Symbol}
-use Rattle.c_stack.specs.declared.symbol.Symbol.TheVariants as s
+use Rattle.c_symbol.specs.Seen.{view_symbol}
+use Rattle.c_symbol.specs.declared.symbol.Operator.{Operator}
+use Rattle.c_symbol.specs.declared.symbol.Symbol.{Symbol}
+use Rattle.c_symbol.specs.declared.symbol.Symbol.TheVariants as s
 
 -- ---- specifiers
 

@@ -3,6 +3,4 @@
 
 mod on_specifier;
 
-pub use on_specifier::{
-    enumerator_begin, enumerator_next, field_begin, specs_next, tag_next, tagged_next,
-};
+pub use on_specifier::{enumerator_begin, enumerator_next, field_begin, specs_next, tag_next};

@@ -1,5 +1,5 @@
--- Statements and attributes: what a step does with the tokens that have no case of their own.
-use Rattle.std.proofs.Common.{◌≡◌, ℕ, false, if◌then◌else◌, List, [], Option, None, refl}
+-- Statements: what a step does with the tokens that have no case of their own.
+use Rattle.std.proofs.Common.{◌≡◌, ℕ, false, if◌then◌else◌, refl}
 use Rattle.tok_base.specs.declared.token.Span.{Span}
 use Rattle.c_tree.specs.Marked as u
 use Rattle.c_tree.specs.Wf.{Env}
@@ -7,14 +7,11 @@ use Rattle.c_reader.specs.Begin.{begins_specs}
 use Rattle.c_reader.specs.MarkedParts.{Open, opens}
 use Rattle.c_reader.specs.MarkedInside as r
 use Rattle.c_reader.specs.MarkedBegin as begin
-use Rattle.c_reader.specs.MarkedSpecs as m
 use Rattle.c_reader.specs.MarkedStmts as b
-use Rattle.c_stack.specs.Seen.{view_symbol}
-use Rattle.c_stack.specs.declared.symbol.Head.{Head}
-use Rattle.c_stack.specs.declared.symbol.Symbol.{Symbol}
-use Rattle.c_stack.specs.declared.symbol.Symbol.TheVariants as s
-
--- ---- statements
+use Rattle.c_symbol.specs.Seen.{view_symbol}
+use Rattle.c_symbol.specs.declared.symbol.Head.{Head}
+use Rattle.c_symbol.specs.declared.symbol.Symbol.{Symbol}
+use Rattle.c_symbol.specs.declared.symbol.Symbol.TheVariants as s
 
 pub stmt_rest : (n : ℕ) (env : Env) (k : r.InStmt) (y : Symbol) (at : Span)
     → ((h : Head) → y ≡ s.Head h → ⊥) → (y ≡ s.LeftBrace → ⊥) → (y ≡ s.RightBrace → ⊥) → (y ≡ s.Semicolon → ⊥)
@@ -48,23 +45,3 @@ pub return_rest : (n : ℕ) (env : Env) (o : Open) (k : r.InStmt) (y : Symbol) (
     → b.return_next n env o k (view_symbol y) at ≡ begin.want n env (r.in_stmt o r.returned k) (view_symbol y) at
 return_rest n env o k s.Semicolon at f = absurd (f refl)
 return_rest n env o k _ at f = refl
-
--- ---- attributes
-
-pub entries_rest : (n : ℕ) (env : Env) (o : Open) (a : r.InAttribute) (y : Symbol)
-    → (y ≡ s.RightParen → ⊥)
-    → m.entries_begin n env o a (view_symbol y) ≡ m.entry_begin n env o a [] (view_symbol y)
-entries_rest n env o a s.RightParen f = absurd (f refl)
-entries_rest n env o a _ f = refl
-
-pub entry_rest : (n : ℕ) (env : Env) (o : Open) (a : r.InAttribute) (es : List u.Entry) (x : List ℕ) (y : Symbol)
-    → (y ≡ s.LeftParen → ⊥)
-    → m.entry_next n env o a es x (view_symbol y) ≡ m.entry_end n env o a (m.add_entry es x None) (view_symbol y)
-entry_rest n env o a es x s.LeftParen f = absurd (f refl)
-entry_rest n env o a es x _ f = refl
-
-pub arguments_rest : (n : ℕ) (env : Env) (o : Open) (a : r.InAttribute) (es : List u.Entry) (x : List ℕ) (y : Symbol) (at : Span)
-    → (y ≡ s.RightParen → ⊥)
-    → m.arguments_begin n env o a es x (view_symbol y) at ≡ m.argument_begin n env o a es x [] (view_symbol y) at
-arguments_rest n env o a es x s.RightParen at f = absurd (f refl)
-arguments_rest n env o a es x _ at f = refl

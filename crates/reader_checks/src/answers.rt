@@ -3,6 +3,7 @@
 ghost use Rattle.std.specs.Prelude.{All};
 ghost use Rattle.c_lexer.specs.Token.{IsToken};
 
+use c_held as held;
 use c_lexer::{LexEnd, lex};
 use c_parser::{ParseEnd, parse};
 use c_printer::print_unit;
@@ -74,9 +75,8 @@ fn read(alloc: Global, tokens: &Items<Token>) -> Result<String, AllocError>
     }
     match parse(alloc, tokens) {
         Ok(unit) => {
-            let text = printed(alloc, &unit);
-            unit.discard();
-            text
+            let unit = held::Unit::new(unit);
+            printed(alloc, unit.get())
         }
         Err(end) => refused(alloc, end),
     }

@@ -1,7 +1,7 @@
 use Rattle.std.proofs.Common.{ap, ◌∙◌}
 use Rattle.c_reader.specs.MarkedBegin as begun
 use Rattle.c_reader.specs.MarkedInside as inside
-use Rattle.c_stack.specs.Seen.{view_symbol}
+use Rattle.c_symbol.specs.Seen.{view_symbol}
 use Rattle.c_stack.proofs.Rest.{gives}
 use Rattle.c_parser.proofs.dispatch.want_external.Goals as goal
 

@@ -1,6 +1,6 @@
 use Rattle.std.proofs.Common.{ap}
 use Rattle.c_reader.specs.MarkedBegin as begun
-use Rattle.c_stack.specs.Seen.{view_symbol}
+use Rattle.c_symbol.specs.Seen.{view_symbol}
 use Rattle.c_stack.proofs.Rest.{gives}
 use Rattle.c_parser.proofs.dispatch.want_param.Goals as goal
 

@@ -1,9 +1,10 @@
 use Rattle.std.proofs.Common.{map, ap, ◌∙◌}
 use Rattle.c_reader.specs.MarkedBegin as begun
 use Rattle.c_reader.specs.MarkedInside as inside
-use Rattle.c_stack.specs.Seen.{view_symbol}
-use Rattle.c_stack.specs.Shown.{shown_declarator, shown_param}
-use Rattle.c_stack.specs.Views.{view_declarator_place, view_open}
+use Rattle.c_symbol.specs.Seen.{view_symbol}
+use Rattle.c_symbol.specs.Shown.{shown_declarator, shown_param}
+use Rattle.c_stack.specs.Views.{view_declarator_place}
+use Rattle.c_symbol.specs.Nodes.{view_open}
 use Rattle.c_stack.proofs.Rest.{gives}
 use Rattle.read_declarator.proofs.on_declarator.begin_params.Goals as goal
 

@@ -1,6 +1,7 @@
 use Rattle.std.proofs.Common.{sym}
-use Rattle.c_stack.specs.Shown.{shown_declarator}
-use Rattle.c_stack.specs.Views.{view_declarator_place, view_had}
+use Rattle.c_symbol.specs.Shown.{shown_declarator}
+use Rattle.c_stack.specs.Views.{view_declarator_place}
+use Rattle.c_symbol.specs.Nodes.{view_had}
 use Rattle.read_declarator.proofs.Rest.{declarator_rest}
 use Rattle.c_stack.proofs.Rest.{gives}
 use Rattle.read_declarator.proofs.on_declarator.declarator_next.Goals as goal

@@ -1,5 +1,6 @@
 use Rattle.std.proofs.Common.{sym}
-use Rattle.c_stack.specs.Views.{view_declarator_place, view_open}
+use Rattle.c_stack.specs.Views.{view_declarator_place}
+use Rattle.c_symbol.specs.Nodes.{view_open}
 use Rattle.read_declarator.proofs.Rest.{opened_rest}
 use Rattle.c_stack.proofs.Rest.{gives}
 use Rattle.read_declarator.proofs.on_declarator.opened_next.Goals as goal

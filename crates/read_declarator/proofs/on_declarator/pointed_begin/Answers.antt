@@ -1,6 +1,6 @@
 use Rattle.std.proofs.Common.{ap}
 use Rattle.c_reader.specs.MarkedDeclarators as reader
-use Rattle.c_stack.specs.Seen.{view_symbol}
+use Rattle.c_symbol.specs.Seen.{view_symbol}
 use Rattle.c_stack.proofs.Rest.{gives}
 use Rattle.read_declarator.proofs.on_declarator.pointed_begin.Goals as goal
 

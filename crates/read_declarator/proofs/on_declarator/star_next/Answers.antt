@@ -1,6 +1,7 @@
 use Rattle.std.proofs.Common.{sym}
-use Rattle.c_stack.specs.Shown.{shown_qualifiers}
-use Rattle.c_stack.specs.Views.{view_declarator_place, view_open}
+use Rattle.c_symbol.specs.Shown.{shown_qualifiers}
+use Rattle.c_stack.specs.Views.{view_declarator_place}
+use Rattle.c_symbol.specs.Nodes.{view_open}
 use Rattle.read_declarator.proofs.Rest.{star_rest}
 use Rattle.c_stack.proofs.Rest.{gives}
 use Rattle.read_declarator.proofs.on_declarator.star_next.Goals as goal

@@ -1,6 +1,7 @@
 use Rattle.std.proofs.Common.{◌<◌, arith}
-use Rattle.c_stack.specs.Shown.{shown_qualifiers}
-use Rattle.c_stack.specs.Views.{view_declarator_place, view_open}
+use Rattle.c_symbol.specs.Shown.{shown_qualifiers}
+use Rattle.c_stack.specs.Views.{view_declarator_place}
+use Rattle.c_symbol.specs.Nodes.{view_open}
 use Rattle.read_end.proofs.Pointers.{pointers, fewer}
 use Rattle.read_end.proofs.declarator.+end_declarator.Goals as goal
 

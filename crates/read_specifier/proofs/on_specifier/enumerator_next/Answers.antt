@@ -1,5 +1,6 @@
 use Rattle.std.proofs.Common.{sym}
-use Rattle.c_stack.specs.Views.{view_in_enum, view_open}
+use Rattle.c_stack.specs.Views.{view_in_enum}
+use Rattle.c_symbol.specs.Nodes.{view_open}
 use Rattle.read_specifier.proofs.Rest.{enumerator_rest}
 use Rattle.c_stack.proofs.Rest.{gives}
 use Rattle.read_specifier.proofs.on_specifier.enumerator_next.Goals as goal

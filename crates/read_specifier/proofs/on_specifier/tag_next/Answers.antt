@@ -1,6 +1,7 @@
 use Rattle.std.proofs.Common.{sym}
-use Rattle.c_stack.specs.Seen.{view_tagged}
-use Rattle.c_stack.specs.Views.{view_open, view_specs_place, view_specs_read}
+use Rattle.c_symbol.specs.Seen.{view_tagged}
+use Rattle.c_stack.specs.Views.{view_specs_place, view_specs_read}
+use Rattle.c_symbol.specs.Nodes.{view_open}
 use Rattle.read_specifier.proofs.Rest.{tag_rest}
 use Rattle.c_stack.proofs.Rest.{gives}
 use Rattle.read_specifier.proofs.on_specifier.tag_next.Goals as goal

@@ -1,8 +1,9 @@
 use Rattle.std.proofs.Common.{ap, ◌∙◌}
 use Rattle.c_reader.specs.MarkedInside as inside
 use Rattle.c_reader.specs.MarkedStmts as reader
-use Rattle.c_stack.specs.Seen.{view_symbol}
-use Rattle.c_stack.specs.Views.{view_body_place, view_open}
+use Rattle.c_symbol.specs.Seen.{view_symbol}
+use Rattle.c_stack.specs.Views.{view_body_place}
+use Rattle.c_symbol.specs.Nodes.{view_open}
 use Rattle.c_stack.proofs.Rest.{gives}
 use Rattle.read_statement.proofs.on_statement.block_next.Goals as goal
 

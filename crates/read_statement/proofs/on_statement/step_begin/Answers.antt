@@ -1,6 +1,7 @@
 use Rattle.std.proofs.Common.{sym}
-use Rattle.c_stack.specs.Shown.{shown_first, shown_maybe}
-use Rattle.c_stack.specs.Views.{view_open, view_stmt_place}
+use Rattle.c_symbol.specs.Shown.{shown_first, shown_maybe}
+use Rattle.c_stack.specs.Views.{view_stmt_place}
+use Rattle.c_symbol.specs.Nodes.{view_open}
 use Rattle.read_statement.proofs.Rest.{step_rest}
 use Rattle.c_stack.proofs.Rest.{gives}
 use Rattle.read_statement.proofs.on_statement.step_begin.Goals as goal

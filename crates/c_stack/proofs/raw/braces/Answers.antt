@@ -1,5 +1,0 @@
-use Rattle.c_stack.proofs.Listed.{made_braces}
-use Rattle.c_stack.proofs.raw.braces.Goals as goal
-
-pub returns : goal.returns
-returns c = made_braces c.braces.result c.args.at c.args.list c.args.has_comma c.braces.ensures

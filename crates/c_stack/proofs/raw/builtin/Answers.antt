@@ -1,5 +1,0 @@
-use Rattle.c_stack.proofs.Listed.{called_builtin}
-use Rattle.c_stack.proofs.raw.builtin.Goals as goal
-
-pub returns : goal.returns
-returns c = called_builtin c.builtin.result c.args.at c.args.args c.builtin.ensures

@@ -1,5 +1,0 @@
-use Rattle.c_stack.proofs.Listed.{defined}
-use Rattle.c_stack.proofs.raw.defines.Goals as goal
-
-pub returns : goal.returns
-returns c = defined c.args.at c.args.specs c.args.declarator c.args.body_at c.args.items

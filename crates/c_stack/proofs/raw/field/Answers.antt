@@ -1,5 +1,0 @@
-use Rattle.c_stack.proofs.Listed.{made_field}
-use Rattle.c_stack.proofs.raw.field.Goals as goal
-
-pub returns : goal.returns
-returns c = made_field c.args.at c.args.specs c.args.declarators

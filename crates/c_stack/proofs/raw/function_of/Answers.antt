@@ -1,5 +1,0 @@
-use Rattle.c_stack.proofs.Listed.{made_function}
-use Rattle.c_stack.proofs.raw.function_of.Goals as goal
-
-pub returns : goal.returns
-returns c = made_function c.args.at c.args.d c.args.params

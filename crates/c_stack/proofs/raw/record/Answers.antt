@@ -1,5 +1,0 @@
-use Rattle.c_stack.proofs.Listed.{made_record}
-use Rattle.c_stack.proofs.raw.record.Goals as goal
-
-pub returns : goal.returns
-returns c = made_record c.record.result c.args.at c.args.is_union c.args.tag c.args.fields c.record.ensures

@@ -1,5 +1,0 @@
-use Rattle.c_stack.proofs.Listed.{made_sizeof_type}
-use Rattle.c_stack.proofs.raw.sizeof_type.Goals as goal
-
-pub returns : goal.returns
-returns c = made_sizeof_type c.args.at c.args.ty
