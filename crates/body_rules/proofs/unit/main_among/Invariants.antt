@@ -1,0 +1,8 @@
+use Rattle.std.proofs.Common.{map}
+use Rattle.c_tree.specs.View.{view_item}
+use Rattle.c_rules.specs.Unit as rules
+use Rattle.body_rules.specs.Lists.{IsLeft}
+use Rattle.body_rules.proofs.unit.main_among.Given as goal
+
+abbrev pub invariant-loop-item : goal.invariant-loop-item
+invariant-loop-item l = IsLeft (λ xs. rules.main_among (map view_item xs)) l.items l.item-index

@@ -1,0 +1,5 @@
+pub mod Known
+pub mod Lengths
+pub mod Calls
+pub mod Lists
+pub mod Sizes

@@ -1,0 +1,7 @@
+use Rattle.std.proofs.lemmas.List.{length-map}
+use Rattle.c_world.specs.Seen.{seen}
+use Rattle.c_world.proofs.state.World.next_object.Goals as goal
+
+pub returns : goal.returns
+unfolding seen
+returns c = rw (← c.self.view_is, length-map, ← c.len.ensures) c.number.ensures

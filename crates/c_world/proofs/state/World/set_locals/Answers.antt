@@ -1,0 +1,6 @@
+use Rattle.c_world.specs.Seen.{seen}
+use Rattle.c_world.proofs.state.World.set_locals.Goals as goal
+
+pub returns-clause-seen : goal.returns-clause-seen
+unfolding seen
+returns-clause-seen c = rw (← c.self.view_is)
