@@ -270,7 +270,7 @@ one_named ts n (m ∷ ms) p e = named_by ts n m ms p (pointwise nat_eq n m.name)
 
 module _ (v : Inner) (t : CType) (n : List ℕ) where
   -- the members as trees
-  seen_members : members_of (seen v).records.members t ≡ map (member_of v.table.terms) (members_of v.table.members t)
+  pub seen_members : members_of (seen v).records.members t ≡ map (member_of v.table.terms) (members_of v.table.members t)
   unfolding seen
   seen_members = of_map (member_of v.table.terms) v.table.members (record_of t)
 
@@ -298,8 +298,8 @@ module _ (v : Inner) (t : CType) (n : List ℕ) where
   offset_found p e = sym (ap (λ o. unwrap_or (option_map (λ i. offset_at (seen v).records.layouts t i) o) 0) (ap (place_of n) seen_names ∙ e))
 
   -- one that isn't finished has none
-  pub none_placed : IsSound v → is_finished v.table.layouts t ≡ false → place_of n (names_in (members_of v.table.members t)) ≡ None
-  none_placed s e = ap (λ ms. place_of n (names_in ms)) (by (record_of t) e)
+  pub none_given : IsSound v → is_finished v.table.layouts t ≡ false → members_of v.table.members t ≡ []
+  none_given s e = by (record_of t) e
     where
       open_at_k : (k : ℕ) (o : Option Layout) → layout_at v.table.layouts k ≡ o → is_some o ≡ false → members_at v.table.members k ≡ []
       open_at_k k None h f = s.unfinished k h
@@ -308,6 +308,9 @@ module _ (v : Inner) (t : CType) (n : List ℕ) where
       by : (r : Option ℕ) → finished_by v.table.layouts r ≡ false → unwrap_or (option_map (members_at v.table.members) r) [] ≡ []
       by None f = refl
       by (Some k) f = open_at_k k (layout_at v.table.layouts k) refl f
+
+  pub none_placed : IsSound v → is_finished v.table.layouts t ≡ false → place_of n (names_in (members_of v.table.members t)) ≡ None
+  none_placed s e = ap (λ ms. place_of n (names_in ms)) (none_given s e)
 
 -- ---- tags
 

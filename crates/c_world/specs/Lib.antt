@@ -5,3 +5,4 @@ pub mod Inner
 pub mod Seen
 pub mod Extends
 pub mod Start
+pub mod Findings

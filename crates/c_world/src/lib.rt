@@ -12,5 +12,5 @@ mod tags;
 pub use end::{CheckEnd, keep};
 pub use names::{Bound, NameEntry};
 pub use sets::NameSet;
-pub use state::{FunctionEntry, ObjectEntry, World};
+pub use state::{Findings, FunctionEntry, ObjectEntry, World};
 pub use tags::TagEntry;

@@ -1,6 +1,7 @@
 //! The state of a check.
 
 mod blocks;
+mod findings;
 mod notes;
 mod objects;
 mod records;
@@ -12,6 +13,7 @@ use crate::sets::NameSet;
 use crate::tags::Tags;
 use c_rules::{Binding, ConstantValue};
 use c_types::{TypeId, TypeTable};
+pub use findings::Findings;
 use std::alloc::Global;
 use std::marker::Model;
 use tok_base::{Bytes, Items, Reserved};

@@ -67,8 +67,8 @@ impl Holes {
         };
         let found = self.lens.get(at);
         let rest = found - need;
-        self.lens.set(at, 0);
         self.lens.set(at + need, rest);
+        self.lens.set(at, 0);
         self.ends[(at + found) as usize] = rest;
         self.count = self.count + rest.min(1) - 1;
         Some(at * 16)
@@ -88,8 +88,8 @@ impl Holes {
         let below = self.ends[start as usize];
         let above = self.lens.get(end);
         let joined = below + len / 16 + above;
-        self.lens.set(end, 0);
         self.lens.set(start - below, joined);
+        self.lens.set(end, 0);
         self.ends[start as usize] = 0;
         self.ends[(end + above) as usize] = joined;
         self.count = self.count + 1 - below.min(1) - above.min(1);

@@ -105,7 +105,7 @@ fn zeros(alloc: Global, count: usize) -> Result<Vec<u32>, AllocError>
     Ok(nodes)
 }
 
-/// Changes the leaf number `at`, and what stands above it.
+/// Changes the leaf number `at`, and what stands above it: what is above a node that stays the same stays too.
 fn put(nodes: &mut [u32], leaves: usize, at: usize, value: u32)
     requires tree { Greatest leaves nodes.old }
     requires inside { at < leaves }
@@ -117,7 +117,11 @@ fn put(nodes: &mut [u32], leaves: usize, at: usize, value: u32)
     nodes[node] = value;
     while node > 1 {
         node /= 2;
-        nodes[node] = nodes[2 * node].max(nodes[2 * node + 1]);
+        let greater = nodes[2 * node].max(nodes[2 * node + 1]);
+        if nodes[node] == greater {
+            return;
+        }
+        nodes[node] = greater;
     }
 }
 

@@ -5,7 +5,7 @@ ghost use Rattle.name_places.specs.Placed.{place_of};
 ghost use Rattle.c_types.specs.CTypes as c;
 ghost use Rattle.c_types.specs.Members.{names_in};
 ghost use Rattle.c_types.specs.Plain as plain;
-ghost use Rattle.c_types.specs.Records.{with_declared, record_refusal, is_union_at, members_of, is_finished, offset_at};
+ghost use Rattle.c_types.specs.Records.{with_declared, record_refusal, is_union, is_union_at, members_of, is_finished, offset_at};
 ghost use Rattle.c_types.specs.Table.{type_at, member_of, member_types, MembersBelow};
 ghost use Rattle.c_types.specs.declared.terms.TypeEnd.TheVariants as end;
 ghost use Rattle.c_rules.specs.Expressions as expressions;
@@ -275,6 +275,28 @@ impl World {
     {
         let id = self.record_type(number);
         self.table.finish_record(id, members)
+    }
+
+    /// Whether a type is a union, also behind typedef names and qualifiers.
+    pub fn is_union(&self, id: TypeId) -> bool
+        requires { id.0 < length self.now.table.terms }
+        ensures { result ≡ is_union (seen self.now).records.heads (type_at self.now.table.terms id.0) }
+    {
+        self.table.is_union(id)
+    }
+
+    /// The members of a struct or union, also behind typedef names and qualifiers; what isn't finished has
+    /// none.
+    pub fn members(&self, id: TypeId) -> &[Member]
+        requires { id.0 < length self.now.table.terms }
+        ensures are { map (member_of self.now.table.terms) result.now ≡ members_of (seen self.now).records.members (type_at self.now.table.terms id.0) }
+        ensures valid { MembersBelow (length self.now.table.terms) result.now }
+    {
+        if self.table.is_finished(id) {
+            self.table.members(id).as_slice()
+        } else {
+            &[]
+        }
     }
 
     /// Whether the enumerators of an enumeration haven't been given.

@@ -3,6 +3,7 @@
 ghost use Rattle.std.specs.Prelude.{◌≡◌, ◌<◌, length, Option, IfOk, OnOk, IfErr, IfSome, IsSome, IsTrue, ◌↔◌, None, Some, ◌≢◌};
 ghost use Rattle.c_types.specs.Compatible.{is_same, are_alike};
 ghost use Rattle.c_types.specs.Consts.{holds_const};
+ghost use Rattle.c_types.specs.Layout.{align};
 ghost use Rattle.c_types.specs.Plain as plain;
 ghost use Rattle.c_types.specs.Plain.{qualifiers_met, result_of, parameters_of, is_function};
 ghost use Rattle.c_types.specs.Records.{refusal, limit};
@@ -80,6 +81,14 @@ impl World {
         ensures small { IfSome result (λ s. s < limit) }
     {
         self.table.size_of(id)
+    }
+
+    /// The alignment of a type in bytes (6.2.8), if it has one.
+    pub fn align_of(&self, id: TypeId) -> Option<u32>
+        requires { id.0 < length self.now.table.terms }
+        ensures { result ≡ align (seen self.now).records.layouts (type_at self.now.table.terms id.0) }
+    {
+        self.table.align_of(id)
     }
 
     pub fn is_complete(&self, id: TypeId) -> bool

@@ -1,4 +1,5 @@
 use Rattle.std.proofs.Common.{◌≡◌, ℕ, ◌+◌, ◌-◌, ◌*◌, ◌/◌, ◌%◌, ◌<◌, ◌≤◌, min, Bool, true, List, length, get_or, set, refl, sym, ap, ◌∙◌, subst, arith}
+use Rattle.std.proofs.lemmas.List.{set_comm}
 use Rattle.hole_list.specs.Units.{Marked}
 use Rattle.hole_list.specs.Tags.{free_units, Tags}
 use Rattle.hole_list.proofs.Free.{length_free}
@@ -73,6 +74,10 @@ overflow_sub-self-2 c =
     let b = c.min-2.ensures in
     omega (arith, counted, a, b)
 
+-- the hole that is made is written before the one behind goes
+joined_first : (lens : List ℕ) (s len below joined : ℕ) → 0 < len → len % 16 ≡ 0 → set (set lens (s - below) joined) (s + len / 16) 0 ≡ set (set lens (s + len / 16) 0) (s - below) joined
+joined_first lens s len below joined some mult = set_comm lens (s - below) (s + len / 16) joined 0 (λ e. omega (arith, e, some, mult))
+
 tags_here : (lens ends : List ℕ) (count s n below above : ℕ) (row : List ℕ) (one two : ℕ) → Gave lens ends count s n below above → row ≡ set (set lens (s + n) 0) (s - below) (below + n + above) → one ≡ min below 1 → two ≡ min above 1 → Tags row (set (set ends s 0) (s + n + above) (below + n + above)) (count + 1 - one - two)
 tags_here lens ends count s n below above row one two g e p q =
     subst (λ (l : List ℕ). Tags l (set (set ends s 0) (s + n + above) (below + n + above)) (count + 1 - one - two)) (sym e)
@@ -84,11 +89,11 @@ invariant_of-self c =
     let i = c.self.inside in
     let g = gave_seen i.lens i.ends.items i.count c.args.self.now c.self.invariant c.self.view_is c.args.place c.args.len c.index-below.result.now c.get-above.result c.requires.positive c.requires.at_unit c.requires.multiple c.requires.inside c.requires.taken c.index-below.ensures c.get-above.ensures in
     tags_here i.lens i.ends.items i.count (c.args.place / 16) (c.args.len / 16) c.index-below.result.now c.get-above.result c.set-2.new.self c.min.result c.min-2.result g
-    (c.set-2.ensures ∙ ap (λ (l : List ℕ). set l (c.args.place / 16 - c.index-below.result.now) (c.index-below.result.now + c.args.len / 16 + c.get-above.result)) c.set.ensures) c.min.ensures c.min-2.ensures
+    (c.set-2.ensures ∙ ap (λ (l : List ℕ). set l (c.args.place / 16 + c.args.len / 16) 0) c.set.ensures ∙ joined_first i.lens (c.args.place / 16) c.args.len c.index-below.result.now (c.index-below.result.now + c.args.len / 16 + c.get-above.result) c.requires.positive c.requires.multiple) c.min.ensures c.min-2.ensures
 
 pub returns : goal.returns
 returns c =
     let i = c.self.inside in
     let g = gave_seen i.lens i.ends.items i.count c.args.self.now c.self.invariant c.self.view_is c.args.place c.args.len c.index-below.result.now c.get-above.result c.requires.positive c.requires.at_unit c.requires.multiple c.requires.inside c.requires.taken c.index-below.ensures c.get-above.ensures in
-    subst (λ (l : List ℕ). Marked true c.args.self.now (free_units 0 l) (c.args.place / 16) (c.args.len / 16)) (sym (c.set-2.ensures ∙ ap (λ (l : List ℕ). set l (c.args.place / 16 - c.index-below.result.now) (c.index-below.result.now + c.args.len / 16 + c.get-above.result)) c.set.ensures))
+    subst (λ (l : List ℕ). Marked true c.args.self.now (free_units 0 l) (c.args.place / 16) (c.args.len / 16)) (sym (c.set-2.ensures ∙ ap (λ (l : List ℕ). set l (c.args.place / 16 + c.args.len / 16) 0) c.set.ensures ∙ joined_first i.lens (c.args.place / 16) c.args.len c.index-below.result.now (c.index-below.result.now + c.args.len / 16 + c.get-above.result) c.requires.positive c.requires.multiple))
     (marks_at (free_units 0 i.lens) (free_units 0 (set (set i.lens (c.args.place / 16 + c.args.len / 16) 0) (c.args.place / 16 - c.index-below.result.now) (c.index-below.result.now + c.args.len / 16 + c.get-above.result))) c.args.self.now (c.args.place / 16) (c.args.len / 16) (c.args.place / 16) (c.args.len / 16) c.self.view_is refl refl g.marked)

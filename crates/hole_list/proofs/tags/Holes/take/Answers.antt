@@ -1,4 +1,5 @@
 use Rattle.std.proofs.Common.{◌≡◌, ℕ, ◌+◌, ◌-◌, ◌*◌, ◌/◌, ◌%◌, ◌<◌, ◌≤◌, min, Bool, false, List, length, get_or, set, refl, sym, ap, ◌∙◌, subst, arith}
+use Rattle.std.proofs.lemmas.List.{set_comm}
 use Rattle.hole_list.specs.Units.{IsRun, IsLowestRun, Marked}
 use Rattle.hole_list.specs.Tags.{free_units, Tags}
 use Rattle.hole_list.proofs.Free.{length_free}
@@ -34,6 +35,10 @@ overflow_sub-self c =
     let m = c.min.ensures in
     omega (arith, f, m)
 
+-- what is left is written before the hole goes
+rest_first : (lens : List ℕ) (at len rest : ℕ) → 0 < len → len % 16 ≡ 0 → set (set lens (at + len / 16) rest) at 0 ≡ set (set lens at 0) (at + len / 16) rest
+rest_first lens at len rest some mult = set_comm lens (at + len / 16) at rest 0 (λ e. omega (arith, e, some, mult))
+
 tags_here : (lens ends : List ℕ) (count at n found : ℕ) (row : List ℕ) (one : ℕ) → n ≤ found → Took lens ends count at n (found - n) → row ≡ set (set lens at 0) (at + n) (found - n) → one ≡ min (found - n) 1 → Tags row (set ends (at + found) (found - n)) (count + one - 1)
 tags_here lens ends count at n found row one fits t e m =
     let p : at + n + (found - n) ≡ at + found = omega (arith, fits) in
@@ -47,7 +52,7 @@ invariant_of-self c =
     let t = took_here i.lens i.ends.items i.count c.self.invariant c.args.len c.in-Some.at c.get-found.result c.requires.positive c.requires.multiple c.in-Some.ensures.found c.get-found.ensures c.in-Some.ensures.first in
     tags_here i.lens i.ends.items i.count c.in-Some.at (c.args.len / 16) c.get-found.result c.set-2.new.self c.min.result
     (let f = c.in-Some.ensures.found in let g = c.get-found.ensures in omega (arith, f, g)) t
-    (c.set-2.ensures ∙ ap (λ (l : List ℕ). set l (c.in-Some.at + c.args.len / 16) (c.get-found.result - c.args.len / 16)) c.set.ensures) c.min.ensures
+    (c.set-2.ensures ∙ ap (λ (l : List ℕ). set l c.in-Some.at 0) c.set.ensures ∙ rest_first i.lens c.in-Some.at c.args.len (c.get-found.result - c.args.len / 16) c.requires.positive c.requires.multiple) c.min.ensures
 
 pub returns-clause-place : goal.returns-clause-place
 returns-clause-place c =
@@ -70,6 +75,6 @@ returns-clause-taken c =
     let i = c.self.inside in
     let t = took_here i.lens i.ends.items i.count c.self.invariant c.args.len c.in-Some.at c.get-found.result c.requires.positive c.requires.multiple c.in-Some.ensures.found c.get-found.ensures c.in-Some.ensures.first in
     let p : c.in-Some.at ≡ c.in-Some.at * 16 / 16 = omega arith in
-    let e = c.set-2.ensures ∙ ap (λ (l : List ℕ). set l (c.in-Some.at + c.args.len / 16) (c.get-found.result - c.args.len / 16)) c.set.ensures in
+    let e = c.set-2.ensures ∙ ap (λ (l : List ℕ). set l c.in-Some.at 0) c.set.ensures ∙ rest_first i.lens c.in-Some.at c.args.len (c.get-found.result - c.args.len / 16) c.requires.positive c.requires.multiple in
     subst (λ (l : List ℕ). Marked false c.args.self.now (free_units 0 l) (c.in-Some.at * 16 / 16) (c.args.len / 16)) (sym e)
     (marks_at (free_units 0 i.lens) (free_units 0 (set (set i.lens c.in-Some.at 0) (c.in-Some.at + c.args.len / 16) (c.get-found.result - c.args.len / 16))) c.args.self.now c.in-Some.at (c.args.len / 16) (c.in-Some.at * 16 / 16) (c.args.len / 16) c.self.view_is p refl t.marked)

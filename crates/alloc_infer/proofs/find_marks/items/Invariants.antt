@@ -1,0 +1,13 @@
+use Rattle.std.specs.Prelude.{map}
+use Rattle.c_tree.specs.View.{view_item}
+use Rattle.c_checked.specs.Found.{known_of}
+use Rattle.alloc_infer.specs.Adds.{AddsLeft, KeepsMarks, mark_of}
+use Rattle.alloc_infer.specs.Sites.{marks}
+use Rattle.alloc_infer.specs.Walked.{in_items}
+use Rattle.alloc_infer.proofs.find_marks.items.Given as goal
+
+abbrev pub invariant-loop-item : goal.invariant-loop-item
+invariant-loop-item l = record {
+  adds : AddsLeft (mark_of l.c.notes.table.terms) l.initial.found l.found (λ xs. in_items (marks (known_of l.c.notes)) (map view_item xs)) l.item-items l.item-index;
+  valid : KeepsMarks l.c.notes l.initial.found l.found;
+}

@@ -1,0 +1,12 @@
+use Rattle.std.specs.Prelude.{map}
+use Rattle.c_tree.specs.View.{view_external}
+use Rattle.c_checked.specs.Found.{known_of}
+use Rattle.alloc_infer.specs.Adds.{AddsLeft, KeepsSites, site_of}
+use Rattle.alloc_infer.specs.Sites.{sites_among}
+use Rattle.alloc_infer.proofs.find_sites.externals.Given as goal
+
+abbrev pub invariant-loop-x : goal.invariant-loop-x
+invariant-loop-x l = record {
+  adds : AddsLeft (site_of l.c.notes.table.terms) l.initial.found l.found (λ xs. sites_among (known_of l.c.notes) l.names (map view_external xs)) l.x-items l.x-index;
+  valid : KeepsSites l.c.notes l.initial.found l.found;
+}

@@ -1,0 +1,5 @@
+pub mod Inferred
+pub mod Walked
+pub mod Untagged
+pub mod Sites
+pub mod Adds

@@ -1,0 +1,9 @@
+pub mod Around
+pub mod Decay
+pub mod Differing
+pub mod Ending
+pub mod Growing
+pub mod Oversizing
+pub mod Refusals
+pub mod Steps
+pub mod Wrapping

@@ -1,0 +1,5 @@
+use Rattle.machine_log.proofs.Reached as lemmas
+use Rattle.machine_log.proofs.laws.runs_advance.Goals as goal
+
+pub returns : goal.returns
+returns c = lemmas.runs_advance

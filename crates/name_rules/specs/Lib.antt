@@ -1,0 +1,2 @@
+pub mod Introducing
+pub mod Names

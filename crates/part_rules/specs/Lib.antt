@@ -1,0 +1,5 @@
+pub mod Layers
+pub mod Members
+pub mod Parameters
+pub mod Records
+pub mod Types
