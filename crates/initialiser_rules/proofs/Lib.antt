@@ -1,0 +1,6 @@
+mod Pieces
+mod Reading
+mod Stepping
+mod Going
+mod Fits
+mod Trying

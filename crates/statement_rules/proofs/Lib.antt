@@ -1,0 +1,5 @@
+mod Scalars
+mod Counts
+mod Sizing
+mod Names
+mod Keeping
