@@ -47,6 +47,12 @@ module _ (items : List CellBlock) (bs : Blocks) (view : blocks_in items ≡ bs) 
       let v : length (blocks_in items) ≡ length bs = ap (λ x. length x) view in
       omega (arith, l, m, v)
 
+  pub below : (n : ℕ) → n < length bs → n < length items
+  below n h =
+      let m = length-map items block_of in
+      let v : length (blocks_in items) ≡ length bs = ap (λ x. length x) view in
+      omega (arith, h, m, v)
+
   pub kept_view : AreKept (sizes_of (blocks_in items)) (blocks_in items) → AreKept (sizes_of bs) bs
   kept_view k = subst (λ l. AreKept (sizes_of l) l) view k
 

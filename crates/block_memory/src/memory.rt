@@ -86,9 +86,9 @@ pub trait Memory {
         ensures starts { starts self.new ≡ starts self.old }
         ensures top { top self.new ≡ top self.old };
 
-    /// Ends the life of a live block.
+    /// Ends the life of a block; a dead one stays as it is.
     fn kill(&mut self, block: u32)
-        requires { IsTrue (access.is_live (blocks self.old) block) }
+        requires { block < length (blocks self.old) }
         ensures killed { blocks self.new ≡ access.killed (blocks self.old) block }
         ensures sizes { sizes self.new ≡ sizes self.old }
         ensures starts { starts self.new ≡ starts self.old }

@@ -1,6 +1,6 @@
 //! Loads, stores and compound assignments.
 
-ghost use Rattle.std.specs.Prelude.{◌≡◌, IfOk};
+ghost use Rattle.std.specs.Prelude.{◌≡◌, IfOk, OnErr};
 ghost use Rattle.block_memory.specs.Given.{IsGiven, IsGivenValue};
 ghost use Rattle.c_core.specs.Blocks as blocks;
 ghost use Rattle.c_meaning.specs.Rules as rules;
@@ -12,7 +12,7 @@ ghost use Rattle.machine_steps.specs.Steps as steps;
 ghost use Rattle.machine_values.specs.Small.{AreSmall};
 
 use block_memory::Memory;
-use c_core::{End, Fault, ModifyOp, Pointer, Scalar, Value, reason_of};
+use c_core::{End, ModifyOp, Pointer, Scalar, Value, reason_of};
 use c_meaning::pointer_in;
 use machine_values::{as_kind, modified};
 use num_ops::{Int, IntKind};
@@ -73,6 +73,7 @@ pub fn store_at<M: Memory>(
     ensures sizes { M.sizes memory.new ≡ M.sizes memory.old }
     ensures starts { M.starts memory.new ≡ M.starts memory.old }
     ensures top { M.top memory.new ≡ M.top memory.old }
+    ensures unchanged { OnErr result (M.blocks memory.new ≡ M.blocks memory.old) }
 {
     let value = as_kind(kind, v);
     match memory.store(p, kind, copied(&value)) {
@@ -132,6 +133,7 @@ fn store_new<M: Memory>(
     ensures sizes { M.sizes memory.new ≡ M.sizes memory.old }
     ensures starts { M.starts memory.new ≡ M.starts memory.old }
     ensures top { M.top memory.new ≡ M.top memory.old }
+    ensures unchanged { OnErr result (M.blocks memory.new ≡ M.blocks memory.old) }
 {
     match store_at(memory, assignment.at, p, assignment.kind, new) {
         Ok(stored) => { if assignment.post { Ok(old) } else { Ok(stored) } }
@@ -155,6 +157,7 @@ fn modify_old<M: Memory>(
     ensures sizes { M.sizes memory.new ≡ M.sizes memory.old }
     ensures starts { M.starts memory.new ≡ M.starts memory.old }
     ensures top { M.top memory.new ≡ M.top memory.old }
+    ensures unchanged { OnErr result (M.blocks memory.new ≡ M.blocks memory.old) }
 {
     let begun = copied(&old);
     match operate(
@@ -184,6 +187,7 @@ pub fn modify<M: Memory>(
     ensures sizes { M.sizes memory.new ≡ M.sizes memory.old }
     ensures starts { M.starts memory.new ≡ M.starts memory.old }
     ensures top { M.top memory.new ≡ M.top memory.old }
+    ensures unchanged { OnErr result (M.blocks memory.new ≡ M.blocks memory.old) }
 {
     let p = pointer_in(place);
     match load_old(memory, assignment.at, p, assignment.kind) {

@@ -1,6 +1,6 @@
 //! What the library does to bytes: copies and fills (7.24.2, 7.24.6).
 
-ghost use Rattle.std.specs.Prelude.{◌≡◌};
+ghost use Rattle.std.specs.Prelude.{◌≡◌, OnErr};
 ghost use Rattle.block_memory.specs.Given.{IsGiven, IsGivenValue};
 ghost use Rattle.c_core.specs.declared.values.Pointer.TheVariants as APointer;
 ghost use Rattle.c_meaning.specs.Storage as storage;
@@ -29,6 +29,7 @@ pub fn copy_bytes<M: Memory>(
     ensures sizes { M.sizes memory.new ≡ M.sizes memory.old }
     ensures starts { M.starts memory.new ≡ M.starts memory.old }
     ensures top { M.top memory.new ≡ M.top memory.old }
+    ensures unchanged { OnErr result (M.blocks memory.new ≡ M.blocks memory.old) }
 {
     let (target, source) = (pointer_in(copied(to)), pointer_in(from));
     match memory.copy(target, source, natural_in(count), may_overlap) {
@@ -50,6 +51,7 @@ pub fn set_bytes<M: Memory>(
     ensures sizes { M.sizes memory.new ≡ M.sizes memory.old }
     ensures starts { M.starts memory.new ≡ M.starts memory.old }
     ensures top { M.top memory.new ≡ M.top memory.old }
+    ensures unchanged { OnErr result (M.blocks memory.new ≡ M.blocks memory.old) }
 {
     let target = pointer_in(copied(to));
     match memory.fill(target, byte_in(byte), natural_in(count)) {
@@ -65,6 +67,7 @@ pub fn zeroed<M: Memory>(memory: &mut M, span: Span, block: u32, size: u64) -> R
     ensures sizes { M.sizes memory.new ≡ M.sizes memory.old }
     ensures starts { M.starts memory.new ≡ M.starts memory.old }
     ensures top { M.top memory.new ≡ M.top memory.old }
+    ensures unchanged { OnErr result (M.blocks memory.new ≡ M.blocks memory.old) }
 {
     match memory.fill(Pointer::Object(block, 0), 0, size) {
         Ok(()) => Ok(()),

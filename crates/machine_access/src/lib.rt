@@ -6,6 +6,8 @@
 
 mod access;
 mod bytes;
+mod records;
 
 pub use access::{Assignment, copied, load_at, modify, store_at};
 pub use bytes::{copy_bytes, set_bytes, zeroed};
+pub use records::{RecordCopy, copy_record};

@@ -1,5 +1,5 @@
 -- What the steps of an expression with parts are.
-use Rattle.std.proofs.Common.{◌≡◌, ℕ, ap}
+use Rattle.std.proofs.Common.{◌≡◌, ℕ, Bool, ap}
 use Rattle.tok_base.specs.declared.token.Span.{Span}
 use Rattle.c_core.specs.declared.values.Value.{Value}
 use Rattle.c_core.specs.Tree as t
@@ -7,6 +7,7 @@ use Rattle.c_core.specs.Tree.{Expr, Form, MaybeExpr, NoExpr, TheExpr, Program}
 use Rattle.c_meaning.specs.World.{State}
 use Rattle.machine_steps.specs.Frames.{Stacks}
 use Rattle.machine_steps.specs.Steps as steps
+use Rattle.machine_expressions.specs.Constants.{TakesConstant}
 use Rattle.machine_expressions.specs.Parting.{first_part, second_part}
 
 same_part : (a b : Expr) → TheExpr a ≡ TheExpr b → a ≡ b
@@ -64,3 +65,29 @@ second_parted c marks span (t.Func f) x w st now h = no_part x _ h
 second_parted c marks span (t.Object p) x w st now h = no_part x _ h
 second_parted c marks span (t.LibCall f es m) x w st now h = no_part x _ h
 second_parted c marks span (t.Mark n) x w st now h = no_part x _ h
+
+-- an expression with a part is no constant
+pub parted_taken : (form : Form) (e : Expr) (taken : Bool) → first_part form ≡ TheExpr e → TakesConstant form taken
+parted_taken (t.Const v) x taken h = no_part x _ h
+parted_taken (t.Load p kind) x taken h = tt
+parted_taken (t.Store p at kind e) x taken h = tt
+parted_taken (t.CopyRecord p a q b size) x taken h = tt
+parted_taken (t.Convert kind e) x taken h = tt
+parted_taken (t.Truth e negated) x taken h = tt
+parted_taken (t.Arith op a b) x taken h = tt
+parted_taken (t.ShiftBits to_left a b) x taken h = tt
+parted_taken (t.CompareInt op a b) x taken h = tt
+parted_taken (t.PtrAdd p i size minus) x taken h = tt
+parted_taken (t.PtrDiff p q size) x taken h = tt
+parted_taken (t.ComparePtr op p q) x taken h = tt
+parted_taken (t.Both a b) x taken h = tt
+parted_taken (t.Either a b) x taken h = tt
+parted_taken (t.Choose a b d) x taken h = tt
+parted_taken (t.Then a b) x taken h = tt
+parted_taken (t.Modify p at kind op e common post) x taken h = tt
+parted_taken (t.Call f type es used) x taken h = tt
+parted_taken (t.Text n) x taken h = tt
+parted_taken (t.Func f) x taken h = tt
+parted_taken (t.Object p) x taken h = tt
+parted_taken (t.LibCall f es m) x taken h = tt
+parted_taken (t.Mark n) x taken h = tt

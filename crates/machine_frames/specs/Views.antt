@@ -1,13 +1,17 @@
 -- What of the machine the stacks and the state in memory are.
-use Rattle.std.specs.Prelude.{ℕ, suc, List, [], ◌∷◌, take, drop, length}
+use Rattle.std.specs.Prelude.{ℕ, suc, Bool, true, false, List, [], ◌∷◌, take, drop, length, Some, None, slice_get}
 use Rattle.c_core.specs.declared.values.Value.{Value}
 use Rattle.c_core.specs.Blocks.{Blocks}
 use Rattle.c_core.specs.Tree.{Expr, Stmt}
+use Rattle.c_core.specs.Library.{library_functions}
 use Rattle.c_core.specs.View.{expr_of, stmt_of}
 use Rattle.c_meaning.specs.declared.log.LogEntry.{LogEntry}
 use Rattle.c_meaning.specs.declared.log.LogEntry.TheVariants.{Grant, Refuse, Release}
-use Rattle.c_meaning.specs.World.{State}
+use Rattle.c_meaning.specs.declared.log.Flow.TheVariants.{Next as Onward}
+use Rattle.c_meaning.specs.World.{State, end_locals}
 use Rattle.machine_steps.specs.Frames as m
+use Rattle.machine_steps.specs.Frames.{topmost, below}
+use Rattle.machine_steps.specs.Steps.{entering, from_made, made_locals, giving_back, left}
 use Rattle.machine_frames.specs.declared.frames.Control.{Control}
 use Rattle.machine_frames.specs.declared.frames.Control.TheVariants.{Eval, Give, Begin, Went}
 use Rattle.machine_frames.specs.declared.frames.Frame.{Frame}
@@ -17,7 +21,7 @@ use Rattle.machine_frames.specs.declared.frames.ExprWait.TheVariants as expr
 use Rattle.machine_frames.specs.declared.frames.StmtWait.{StmtWait}
 use Rattle.machine_frames.specs.declared.frames.StmtWait.TheVariants as stmt
 use Rattle.machine_frames.specs.declared.frames.Turned.{Turned}
-use Rattle.machine_frames.specs.declared.frames.Turned.TheVariants.{On, Over}
+use Rattle.machine_frames.specs.declared.frames.Turned.TheVariants as turned
 use Rattle.machine_frames.specs.declared.state.Rest.{Rest}
 
 abbrev pub control_of : Control → m.Control
@@ -82,7 +86,25 @@ state_of bs r = record {
   };
 }
 
--- what a step led to
+-- without the arguments of a call, and the called value below them where it is made through one
+abbrev pub without_called : (through : Bool) → List Value → List Value
+without_called true vs = below 1 vs
+without_called false vs = vs
+
+abbrev pub behind_call : (through : Bool) → (args : ℕ) → m.Stacks → m.Stacks
+behind_call through args st = record st { values = without_called through (below args st.values) }
+
+-- the objects of a block die
+abbrev pub closed : List (ℕ × ℕ) → State → State
+closed objects s = record s { world = end_locals objects s.world }
+
+-- what a step led to; the arguments of a call are the topmost values
 abbrev pub next_of : Turned → m.Stacks → State → m.Next
-next_of (On control) st s = m.On (control_of control) st s
-next_of (Over e) st s = m.Over e s
+next_of (turned.On control) st s = m.On (control_of control) st s
+next_of (turned.Over e) st s = m.Over e s
+next_of (turned.Library x) st s = m.Library (slice_get library_functions x.function) x.span x.mark (topmost x.args st.values) (behind_call x.through x.args st) s
+next_of (turned.Enter x) st s = entering (stmt_of x.body.now) x.is_main x.params.now (topmost x.args st.values) x.used x.span (behind_call x.through x.args st) s
+next_of (turned.Open objects (Some x)) st s = from_made (made_locals objects.now s) (m.On (m.Begin (stmt_of x.now)) st)
+next_of (turned.Open objects None) st s = from_made (made_locals objects.now s) (λ s. m.On (m.Went Onward) st (closed objects.now s))
+next_of (turned.Close objects flow) st s = m.On (m.Went flow) st (closed objects.now s)
+next_of (turned.Leave x flow) st s = giving_back x.is_main x.used x.span flow (record st { saved = take x.base st.saved }) (left x.params.now (drop x.base st.saved) s)

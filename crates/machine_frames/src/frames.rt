@@ -1,6 +1,6 @@
 //! What the machine does next, and what waits.
 
-use c_core::{End, Expr, Stmt, Value};
+use c_core::{End, Expr, LibMark, Stmt, Value};
 use c_meaning::Flow;
 use tok_base::Span;
 
@@ -71,6 +71,35 @@ pub enum Frame<'a> {
     Leave(Leaving<'a>),
 }
 
+/// A call of a library function; its arguments are the topmost values.
+#[derive(Clone, Copy, Debug, PartialEq, Eq)]
+pub struct LibraryCall {
+    /// Its number.
+    pub function: u32,
+    pub span: Span,
+    pub mark: LibMark,
+    /// How many arguments there are.
+    pub args: u32,
+    /// Whether the called value stands below them.
+    pub through: bool,
+}
+
+/// A call of a function with a body; its arguments are the topmost values.
+#[derive(Clone, Copy)]
+pub struct Entering<'a> {
+    pub body: &'a Stmt,
+    /// The sizes of the parameters.
+    pub params: &'a [u32],
+    pub is_main: bool,
+    /// Whether the value of the call is used.
+    pub used: bool,
+    pub span: Span,
+    /// How many arguments there are.
+    pub args: u32,
+    /// Whether the called value stands below them.
+    pub through: bool,
+}
+
 /// What a step leads to.
 #[derive(Clone, Copy)]
 pub enum Turned<'a> {
@@ -78,4 +107,14 @@ pub enum Turned<'a> {
     On(Control<'a>),
     /// The run is over.
     Over(End),
+    /// A library function is called, and its value goes to what waits. The arguments are still on the stack.
+    Library(LibraryCall),
+    /// A function's parameters are made, and its body begins. The arguments are still on the stack.
+    Enter(Entering<'a>),
+    /// The objects of a block are made, and its first statement begins; without one they die, and the block ends.
+    Open(&'a [(u32, u64)], Option<&'a Stmt>),
+    /// The objects of a block die, and what waits is told how it ended.
+    Close(&'a [(u32, u64)], Flow),
+    /// A function's parameters die, the caller's locals are there again, and what waits is given the function's value.
+    Leave(Leaving<'a>, Flow),
 }

@@ -1,7 +1,8 @@
 //! The frames and the values that wait.
 
-ghost use Rattle.std.specs.Prelude.{◌≡◌, ◌∷◌, [], OnOk, MatchOption, IfOk};
+ghost use Rattle.std.specs.Prelude.{◌≡◌, ◌∷◌, [], OnOk, MatchOption, IfNone};
 ghost use Rattle.machine_frames.specs.Views.{frame_of, frames_of, values_of};
+ghost use Rattle.machine_steps.specs.Frames.{below};
 
 use crate::frames::Frame;
 use c_core::Value;
@@ -64,8 +65,21 @@ impl<'a> Stacks<'a> {
     #[tactic(auto, using(crate::proofs::Pushes::pushed))]
     pub fn take(&mut self) -> Option<Value>
         ensures values { MatchOption result (values_of self.old.values.items ≡ []) (λ v. values_of self.old.values.items ≡ v ∷ values_of self.new.values.items) }
+        ensures none { IfNone result (self.new.values.items ≡ self.old.values.items) }
         ensures frames { self.new.frames.items ≡ self.old.frames.items }
     {
         self.values.pop()
+    }
+
+    /// The value that stands below the topmost ones.
+    #[inline]
+    pub fn below(&self, count: u32) -> Option<&Value>
+        ensures { MatchOption result (below count (values_of self.now.values.items) ≡ []) (λ v. below count (values_of self.now.values.items) ≡ v.now ∷ below 1 (below count (values_of self.now.values.items))) }
+    {
+        let len = self.values.len();
+        if len <= count as usize {
+            return None;
+        }
+        self.values.get(len - 1 - count as usize)
     }
 }

@@ -1,6 +1,8 @@
 -- Offsets into small blocks, and elements that are larger than every block.
-use Rattle.std.proofs.Common.{◌≡◌, ℕ, zero, suc, ◌*◌, ◌<◌, ◌≤◌, ◌^◌, Bool, true, false, List, [], ◌∷◌, ℤ, pos, negsuc, Result, Ok, Err, length, refl, sym, subst, arith}
+use Rattle.std.proofs.Common.{◌≡◌, ℕ, zero, suc, ◌*◌, ◌<◌, ◌≤◌, ◌^◌, Bool, true, false, List, [], ◌∷◌, ℤ, pos, negsuc, neg_ℤ, nat_abs, Result, Ok, Err, length, refl, sym, subst, arith, eqb}
 use Rattle.std.specs.Prelude.{slice_get, slice_index, int_le, ◌&&◌, IfOk}
+use Rattle.std.proofs.Math.Dec.{eqb-suc-zero}
+use Rattle.std.proofs.Math.Nat.{mod-zero}
 use Rattle.std.proofs.lemmas.Int.{ints}
 use Rattle.c_core.specs.declared.values.Pointer.{Pointer}
 use Rattle.c_core.specs.declared.values.Pointer.TheVariants.{Null, Object, Function}
@@ -10,7 +12,7 @@ use Rattle.num_ops.specs.declared.arithmetic.Op.{Op}
 use Rattle.num_ops.specs.declared.arithmetic.Undefined.{Undefined}
 use Rattle.c_core.specs.declared.values.Value.{Value}
 use Rattle.tok_base.specs.declared.reason.Reason.{Reason}
-use Rattle.c_meaning.specs.Rules.{size_in, stepped, at_offset, number_value, number_in, shift, arith as arith_of}
+use Rattle.c_meaning.specs.Rules.{size_in, stepped, at_offset, number_value, number_in, elements, shift, arith as arith_of}
 use Rattle.tok_base.specs.declared.reason.Reason.TheVariants as reason
 use Rattle.block_memory.specs.Given.{IsGiven, IsGivenValue}
 use Rattle.block_memory.specs.Shape.{sizes_of}
@@ -63,3 +65,14 @@ arith_given sizes op a b r e = subst (λ (x : Result Value Reason). IfOk x (λ v
 
 pub shift_given : (sizes : List ℕ) (left : Bool) (a b : Value) (r : Result Value Reason) → r ≡ shift left a b → IfOk r (λ v. IsGivenValue sizes v)
 shift_given sizes left a b r e = subst (λ (x : Result Value Reason). IfOk x (λ v. IsGivenValue sizes v)) (sym e) (number_given sizes (number_in a).kind _)
+
+not_zero : (n : ℕ) → eqb (suc n) 0 ≡ false
+not_zero n = eqb-suc-zero n
+
+-- a difference in elements of no size: only equal places have one
+pub none_left : (bytes : ℤ) → (bytes ≡ pos 0 → ⊥) → elements bytes 0 ≡ Err reason.PointerDiff
+none_left (pos zero) h = absurd (h refl)
+none_left (pos (suc n)) h = rw (mod-zero (suc n), not_zero n) refl
+none_left (negsuc n) h =
+    let e : eqb (nat_abs (neg_ℤ (pos (suc n)))) 0 ≡ false = not_zero n in
+    rw (mod-zero (suc n), e) refl

@@ -54,13 +54,29 @@ fn at_offset<M: Memory>(memory: &M, number: u32, offset: i128) -> Result<Value, 
     }
 }
 
+/// The difference in elements of no size, which no type has.
+#[tactic(auto, using(crate::proofs::Small::none_left))]
+fn no_elements(bytes: i128) -> Result<Value, Reason>
+    ensures { result ≡ rules.elements bytes 0 }
+{
+    if bytes != 0 {
+        return Err(Reason::PointerDiff);
+    }
+    Ok(Value::Int(Int {
+        kind: IntKind::Long,
+        value: 0,
+    }))
+}
+
 /// The difference of two offsets in elements of a size, of type `long` (6.5.6, paragraph 9).
 fn elements(bytes: i128, size: u64) -> Result<Value, Reason>
     requires low { neg_ℤ (pos (2 ^ 63)) ≤ℤ bytes }
     requires high { bytes <ℤ pos (2 ^ 63) }
-    requires size { 0 < size }
     ensures { result ≡ rules.elements bytes size }
 {
+    if size == 0 {
+        return no_elements(bytes);
+    }
     if bytes % size as i128 != 0 {
         return Err(Reason::PointerDiff);
     }
@@ -156,7 +172,6 @@ pub fn ptr_add<M: Memory>(
 fn difference(p: Pointer, q: Pointer, size: u64) -> Result<Value, Reason>
     requires left { IsBelow p }
     requires right { IsBelow q }
-    requires size { 0 < size }
     ensures { result ≡ rules.ptr_diff_of p q size }
 {
     match (p, q) {
@@ -257,7 +272,6 @@ pub fn ptr_diff<M: Memory>(memory: &M, p: Value, q: Value, size: u64) -> Result<
     requires left { IsGivenValue (M.sizes memory.now) p }
     requires right { IsGivenValue (M.sizes memory.now) q }
     requires small { AreSmall (M.blocks memory.now) }
-    requires size { 0 < size }
     ensures { result ≡ rules.ptr_diff (M.blocks memory.now) p q size }
 {
     let (p, q) = (pointer_in(p), pointer_in(q));

@@ -164,6 +164,38 @@ module _ (m : Inside) (s : Stored) (is : stored_over m ≡ s) (inv : IsPacked m)
         row_written to n 1 place ok x e cells after (cells_long bs kept from n 1 false source r) (cells_given bs kept from n 1 false source r)
         (a ∙ ap (λ l. over row (x.at + place.offset) l) (sym (cells_there from n 1 false source ok2 z f)))
 
+  -- a block that was given
+  module _ (n : ℕ) (h : n < length bs) (x : PackedBlock) (e : x ≡ get_or items n x) where
+    pub given_within : n < length items
+    given_within = let m = length-map items (block_over row) in let v : length (blocks_over row items) ≡ length bs = ap (λ (l : Blocks). length l) view in omega (arith, h, m, v)
+
+    given_item : slice_get items n ≡ Some x
+    given_item = slice_get_read items (length items) n x refl given_within e
+
+    given_there : slice_get bs n ≡ Some (block_over row x)
+    given_there = is_there n x given_within e
+
+    -- it is killed
+    pub killed_are : blocks_over row (set items n (killed_block x)) ≡ killed bs n
+    killed_are = blocks_killed row items n x ∙ ap (λ (l : Blocks). set l n (dead (block_over row x))) view ∙ sym (killed_is bs n (block_over row x) given_there)
+
+    pub killed_keeps : Kept bs (blocks_over row (set items n (killed_block x)))
+    killed_keeps =
+        kept_as bs (blocks_over row (set items n (killed_block x))) (set bs n (dead (block_over row x)))
+        (killed_are ∙ killed_is bs n (block_over row x) given_there) (killed_kept bs n (block_over row x) given_there kept)
+
+    pub killed_inside : AreInside (length row) (set items n (killed_block x))
+    killed_inside = inside_killed (length row) items n x given_item inv.inside
+
+    pub killed_clear : AreClear (set items n (killed_block x))
+    killed_clear = clear_killed items n x inv.clear
+
+    pub killed_small : length row < 2 ^ 30
+    killed_small = inv.small
+
+    pub killed_starts : starts_over (set items n (killed_block x)) ≡ s.starts
+    killed_starts = starts_set items n x (killed_block x) given_item refl ∙ starts_are
+
   -- a block of which it is known that it lives
   module _ (n : ℕ) (h : IsTrue (is_live bs n)) (x : PackedBlock) (e : x ≡ get_or items n x) where
     live : (b : Block) × (slice_get bs n ≡ Some b) × (b.live ≡ true)
@@ -180,27 +212,6 @@ module _ (m : Inside) (s : Stored) (is : stored_over m ≡ s) (inv : IsPacked m)
 
     lives : x.live ≡ true
     lives = ap (λ (d : Block). d.live) (same_Some (block_over row x) live.0 (sym live_there ∙ live.1)) ∙ live.2
-
-    -- it is killed
-    pub killed_are : blocks_over row (set items n (killed_block x)) ≡ killed bs n
-    killed_are = blocks_killed row items n x ∙ ap (λ (l : Blocks). set l n (dead (block_over row x))) view ∙ sym (killed_is bs n (block_over row x) live_there)
-
-    pub killed_keeps : Kept bs (blocks_over row (set items n (killed_block x)))
-    killed_keeps =
-        kept_as bs (blocks_over row (set items n (killed_block x))) (set bs n (dead (block_over row x)))
-        (killed_are ∙ killed_is bs n (block_over row x) live_there) (killed_kept bs n (block_over row x) live_there kept)
-
-    pub killed_inside : AreInside (length row) (set items n (killed_block x))
-    killed_inside = inside_killed (length row) items n x live_item inv.inside
-
-    pub killed_clear : AreClear (set items n (killed_block x))
-    killed_clear = clear_killed items n x inv.clear
-
-    pub killed_small : length row < 2 ^ 30
-    killed_small = inv.small
-
-    pub killed_starts : starts_over (set items n (killed_block x)) ≡ s.starts
-    killed_starts = starts_set items n x (killed_block x) live_item refl ∙ starts_are
 
     -- one cell of it is written
     module _ (o : ℕ) (inside : o < get_or (sizes_of bs) n 0) where

@@ -11,8 +11,8 @@ use Rattle.block_memory.specs.Shape.{Stored, sizes_of, AreKept, place_of}
 use Rattle.block_memory.specs.CellForm.{block_of, blocks_in, starts_in}
 use Rattle.block_memory.specs.declared.cell_memory.CellBlock.{CellBlock}
 use Rattle.block_memory.proofs.Keeping.{given_cells, given_replicate, kept_placed, kept_at, value_given}
-use Rattle.block_memory.proofs.Steps.{Wrote, Kept, stored, filled, length-value, live_at, killed_is, killed_kept, kept_as, initialised_is, initialised_kept}
-use Rattle.block_memory.proofs.Cells.{starts_same, is_there, set_is, within, kept_view, reach_within, room_there, cells_wrote}
+use Rattle.block_memory.proofs.Steps.{Wrote, Kept, stored, filled, length-value, killed_is, killed_kept, kept_as, initialised_is, initialised_kept}
+use Rattle.block_memory.proofs.Cells.{starts_same, is_there, set_is, below, kept_view, reach_within, room_there, cells_wrote}
 use Rattle.block_memory.proofs.cell_memory.CellMemoryMemory.kill.Goals as goal
 
 pub invariant_of-self : goal.invariant_of-self
@@ -23,8 +23,7 @@ invariant_of-self c =
     let n = c.args.block in
     let x = c.index_mut-block.result.now in
     let e : x ≡ get_or items n x = c.index_mut-block.ensures.value in
-    let live = live_at bs n c.requires in
-    let h : n < length items = within items bs view n live.0 live.1 in
+    let h : n < length items = below items bs view n c.requires in
     let there = is_there items bs view n x h e in
     let y : CellBlock = record x { live = false; cells = c.new-empty.result } in
     let same : block_of y ≡ dead (block_of x) = ap (λ l. let b : Block = record (block_of x) { live = false; cells = l } in b) c.new-empty.ensures.items in
@@ -40,8 +39,7 @@ returns-clause-killed c =
     let n = c.args.block in
     let x = c.index_mut-block.result.now in
     let e : x ≡ get_or items n x = c.index_mut-block.ensures.value in
-    let live = live_at bs n c.requires in
-    let h : n < length items = within items bs view n live.0 live.1 in
+    let h : n < length items = below items bs view n c.requires in
     let there = is_there items bs view n x h e in
     let y : CellBlock = record x { live = false; cells = c.new-empty.result } in
     let same : block_of y ≡ dead (block_of x) = ap (λ l. let b : Block = record (block_of x) { live = false; cells = l } in b) c.new-empty.ensures.items in
@@ -57,8 +55,7 @@ returns-clause-sizes c =
     let n = c.args.block in
     let x = c.index_mut-block.result.now in
     let e : x ≡ get_or items n x = c.index_mut-block.ensures.value in
-    let live = live_at bs n c.requires in
-    let h : n < length items = within items bs view n live.0 live.1 in
+    let h : n < length items = below items bs view n c.requires in
     let there = is_there items bs view n x h e in
     let y : CellBlock = record x { live = false; cells = c.new-empty.result } in
     let same : block_of y ≡ dead (block_of x) = ap (λ l. let b : Block = record (block_of x) { live = false; cells = l } in b) c.new-empty.ensures.items in
@@ -74,8 +71,7 @@ returns-clause-starts c =
     let n = c.args.block in
     let x = c.index_mut-block.result.now in
     let e : x ≡ get_or items n x = c.index_mut-block.ensures.value in
-    let live = live_at bs n c.requires in
-    let h : n < length items = within items bs view n live.0 live.1 in
+    let h : n < length items = below items bs view n c.requires in
     let there = is_there items bs view n x h e in
     let y : CellBlock = record x { live = false; cells = c.new-empty.result } in
     let same : block_of y ≡ dead (block_of x) = ap (λ l. let b : Block = record (block_of x) { live = false; cells = l } in b) c.new-empty.ensures.items in

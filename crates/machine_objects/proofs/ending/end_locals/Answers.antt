@@ -1,0 +1,21 @@
+use Rattle.std.proofs.Common.{◌≡◌, ℕ, ◌+◌, ◌-◌, take, arith, ap, ◌∙◌}
+use Rattle.machine_state.specs.State.{state_in}
+use Rattle.machine_state.proofs.Sound.{keeps_then}
+use Rattle.machine_objects.specs.Made.{ending}
+use Rattle.machine_objects.proofs.Dying.{ending_step}
+use Rattle.machine_objects.proofs.ending.end_locals.Goals as goal
+
+pub ending-preserved : goal.ending-preserved
+ending-preserved g c =
+    let left = c.ending.left in
+    let objects = c.args.objects.now in
+    let s = state_in (g.M.Memory.blocks c.ending.memory) c.ending.ledger in
+    let more : left - 1 + 1 ≡ left = omega arith in
+    record {
+      within = omega arith;
+      run = ending_step objects (left - 1) c.object_at-object.result s (state_in (g.M.Memory.blocks c.end_local.new.memory) c.end_local.new.ledger) (omega arith) c.object_at-object.ensures c.in_ok-end_local.ensures.run
+          ∙ ap (λ (n : ℕ). ending (take n objects) s) more ∙ c.ending.invariant.run;
+      sound = c.in_ok-end_local.ensures.sound;
+      keeps = keeps_then (g.M.Memory.sizes c.args.memory.now) (g.M.Memory.sizes c.ending.memory) (g.M.Memory.sizes c.end_local.new.memory) c.args.ledger.now c.ending.ledger c.end_local.new.ledger c.ending.invariant.keeps c.in_ok-end_local.ensures.keeps;
+      log = c.end_local.ensures.log ∙ c.ending.invariant.log;
+    }
