@@ -1,0 +1,12 @@
+pub mod Found
+pub mod Wanted
+pub mod Operators
+pub mod Places
+pub mod Calls
+pub mod Statements
+pub mod Initialisers
+pub mod FixedObjects
+pub mod Functions
+pub mod Spans
+pub mod WholeUnits
+pub mod Laws

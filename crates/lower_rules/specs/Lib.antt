@@ -1,0 +1,12 @@
+pub mod Shapes
+pub mod Lowered
+pub mod Operators
+pub mod Numbered
+pub mod Values
+pub mod Expressions
+pub mod FixedThings
+pub mod Initialisers
+pub mod Statements
+pub mod Units
+pub mod Sorts
+pub mod Formed
