@@ -6,6 +6,8 @@ use Rattle.site_examples.specs.Values as values
 use Rattle.site_examples.specs.Calls as calls
 use Rattle.site_examples.specs.Untagged as untagged
 use Rattle.site_examples.specs.Marks as marks
+use Rattle.site_examples.specs.Spelled as spelled
+use Rattle.site_examples.specs.Page as page
 
 abbrev pub SizesAsWanted : Type 0
 SizesAsWanted = map found sizes.rows ≡ sizes.rows
@@ -21,3 +23,9 @@ UntaggedAsWanted = map found untagged.rows ≡ untagged.rows
 
 abbrev pub MarksAsWanted : Type 0
 MarksAsWanted = map found marks.rows ≡ marks.rows
+
+abbrev pub SpellingsAsWanted : Type 0
+SpellingsAsWanted = map found spelled.rows ≡ spelled.rows
+
+abbrev pub PageAsWanted : Type 0
+PageAsWanted = map found page.rows ≡ page.rows

@@ -4,4 +4,6 @@ pub mod Values
 pub mod Calls
 pub mod Untagged
 pub mod Marks
+pub mod Spelled
+pub mod Page
 pub mod Laws
